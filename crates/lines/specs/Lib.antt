@@ -1,0 +1,5 @@
+pub mod Pieces
+pub mod Numeral
+pub mod Words
+pub mod Left
+pub mod Tokens

@@ -1,0 +1,9 @@
+mod Lowest
+mod Masks
+mod Phases
+mod Played
+mod Runs
+mod Sames
+mod Samples
+mod Starts
+mod Steps

@@ -1,0 +1,5 @@
+mod Demand
+mod Least
+mod Planned
+mod Positive
+mod Settling

@@ -1,0 +1,4 @@
+pub mod Timing
+pub mod Timings
+pub mod Response
+pub mod Periods

@@ -1,0 +1,9 @@
+-- The rows of a `Timings`, as a list.
+use Prim.Native.Nat.{ℕ}
+use mathlib.Core.List.{List}
+use lib.ListN.{take}
+use Rattle.planner.specs.declared.timing.Timing.{Timing}
+use Rattle.planner.specs.declared.timings.Timings.{Timings}
+
+abbrev pub timings-of : Timings → List Timing
+timings-of t = take (t .count) (t .rows)

@@ -1,0 +1,4 @@
+pub mod Filled
+mod Kept
+mod Refused
+mod Rows

@@ -1,0 +1,5 @@
+pub mod Plans
+pub mod Replies
+pub mod States
+pub mod Transcript
+pub mod Turns
