@@ -5,5 +5,4 @@ mod Played
 mod Runs
 mod Sames
 mod Samples
-mod Starts
 mod Steps

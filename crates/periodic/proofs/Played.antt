@@ -8,8 +8,9 @@ use native.Mathlib.Omega.{arith}
 use lib.Dec.{eqb}
 use lib.ListN.{getD, length}
 use Rattle.std.proofs.shelf.Lists.{getD-map, length-map}
+use Rattle.policy.proofs.Stepping.{last-step}
 use Rattle.policy.specs.Course.{steps}
-use Rattle.planner.specs.Timing.{blank}
+use Rattle.planner.specs.Timing.{Positive, blank}
 use Rattle.planner.specs.declared.timing.Timing.{Timing}
 use Rattle.periodic.specs.declared.row.Row.{Row}
 use Rattle.periodic.specs.Plays.{Plays, left-in}
@@ -17,13 +18,7 @@ use Rattle.periodic.specs.Rows.{begun, blank-row, lowest, periodic-course, per
 use Rattle.periodic.proofs.Masks.{mask-small, names-mask}
 use Rattle.periodic.proofs.Phases.{Phase, phase-due, phase-more, phase-start}
 use Rattle.periodic.proofs.Runs.{lowest-first, lowest-idles, lowest-within, lowest-works, run-at}
-use Rattle.periodic.proofs.Starts.{Positive}
 use Rattle.periodic.proofs.Steps.{length-run}
-
--- the last of n + 1 steps
-last-step : {S : Type 0} (f : S → S) (n : ℕ) (s : S) → steps f (suc n) s ≡ f (steps f n s)
-last-step f zero s = refl
-last-step f (suc n) s = last-step f n (f s)
 
 -- a row's numbers in slot n
 record Row-in (t : Timing) (n : ℕ) (r : Row) : Type 0 where

@@ -9,7 +9,7 @@ use lib.ListN.{length, getD, drop}
 use Rattle.std.proofs.shelf.Lists.{at-drop-more, at-drop-all}
 use Rattle.std.proofs.shelf.Tests.{cases-order}
 use Rattle.planner.specs.Response.{demand, rounded-up, taken-by}
-use Rattle.planner.specs.Timing.{blank}
+use Rattle.planner.specs.Timing.{Positive, blank}
 use Rattle.planner.specs.declared.timing.Timing.{Timing}
 
 -- at most as many periods as slots
@@ -35,7 +35,7 @@ rounded-mono r s p h l =
           absurd (omega arith))
     ]
 
-pub demand-mono : (ts : List Timing) (r s : ℕ) → ((k : ℕ) → k < length ts → 1 ≤ getD ts k blank .period) → r ≤ s → demand ts r ≤ demand ts s
+pub demand-mono : (ts : List Timing) (r s : ℕ) → Positive ts → r ≤ s → demand ts r ≤ demand ts s
 demand-mono [] r s h l = omega arith
 demand-mono (t ∷ ts) r s h l =
     let here : rounded-up r (t .period) * t .work ≤ rounded-up s (t .period) * t .work = mul-le-mul-right (t .work) (rounded-mono r s (t .period) (h 0 (omega arith)) l) in

@@ -13,12 +13,12 @@ use Rattle.std.specs.declared.option.Option.the-variants.{Some, None}
 use Rattle.std.proofs.shelf.Results.{cases-at-some}
 use Rattle.std.proofs.shelf.Tests.{cases-lt, eq-eqb, eqb-false, eqb-true, ne-eqb}
 use Rattle.planner.specs.Response.{No-response, Response, Settles, demand, response-time}
-use Rattle.planner.specs.Timing.{blank}
+use Rattle.planner.specs.Timing.{Positive}
 use Rattle.planner.specs.declared.timing.Timing.{Timing}
 use Rattle.planner.proofs.Demand.{demand-mono}
 use Rattle.planner.proofs.Least.{Tells, least-tells, only-none, only-some}
 
-module _ (above : List Timing) (work : ℕ) (positive : (k : ℕ) → k < length above → 1 ≤ getD above k blank .period) where
+module _ (above : List Timing) (work : ℕ) (positive : Positive above) where
   -- nothing below what the slots so far ask for settles
   pub none-below : (s : ℕ) → ((j : ℕ) → j < s → Settles above work j → ⊥) → (j : ℕ) → j < work + demand above s → Settles above work j → ⊥
   none-below s before j l e =

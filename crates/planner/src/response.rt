@@ -1,7 +1,7 @@
-ghost use Prim.Native.Nat.{ℕ, _<_, _≤_, _*_};
+ghost use Prim.Native.Nat.{_*_, _≤_};
 ghost use Rattle.planner.specs.Response.{demand, response-time, rounded-up};
-ghost use Rattle.planner.specs.Timing.{blank};
-ghost use lib.ListN.{getD, length};
+ghost use Rattle.planner.specs.Timing.{Positive};
+ghost use lib.ListN.{length};
 ghost use mathlib.Core.Path.{_≡_};
 use crate::timing::Timing;
 
@@ -9,7 +9,7 @@ use crate::timing::Timing;
 fn demand(above: &[Timing], slots: u32) -> u32
     requires few { ⌜ length (now above) ≤ 16 ⌝ }
     requires bounded { ⌜ slots ≤ 2047 ⌝ }
-    requires positive { ⌜ ((k : ℕ) → k < length (now above) → 1 ≤ getD (now above) k blank .period) ⌝ }
+    requires positive { ⌜ Positive (now above) ⌝ }
     ensures value { λ r. ⌜ r ≡ demand (now (above .entry)) slots ⌝ }
     ensures bound { λ r. ⌜ r ≤ 521985 * 16 ⌝ }
 {
@@ -33,7 +33,7 @@ fn taken_by(work: u8, period: u16, slots: u32) -> u32
 pub(crate) fn response_time(above: &[Timing], work: u8, validity: u16) -> Option<u16>
     requires few { ⌜ length (now above) ≤ 16 ⌝ }
     requires bounded { ⌜ validity ≤ 4095 ⌝ }
-    requires positive { ⌜ ((k : ℕ) → k < length (now above) → 1 ≤ getD (now above) k blank .period) ⌝ }
+    requires positive { ⌜ Positive (now above) ⌝ }
     ensures { λ r. ⌜ r ≡ response-time (now (above .entry)) work validity ⌝ }
 {
     let own = u32::from(work);

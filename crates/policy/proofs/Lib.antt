@@ -1,1 +1,2 @@
 mod Courses
+pub mod Stepping

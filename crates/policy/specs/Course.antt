@@ -1,8 +1,6 @@
 -- An answer for a slot, and a course: the endless sequence of a policy's answers.
-use Prim.Native.Nat.{ℕ, zero, suc, _+_}
-use mathlib.Core.Path.{_≡_}
+use Prim.Native.Nat.{ℕ, zero, suc}
 use mathlib.Core.Bool.{Bool, true, _&&_}
-use native.Mathlib.Numerals.{add-one}
 use lib.Dec.{eqb}
 
 -- the rows to sample as a mask, row k standing for 2^(k - 1), and the row to run, or 0
@@ -29,6 +27,3 @@ steps f (suc n) s = steps f n (f s)
 -- what a stepping thing shows n steps ahead
 abbrev pub ahead : {S : Type 0} → (S → S) → (S → Answer) → S → Course
 ahead f shows s n = shows (steps f n s)
-
-pub ahead-onward : {S : Type 0} (f : S → S) (shows : S → Answer) (s : S) (n : ℕ) → ahead f shows (f s) n ≡ ahead f shows s (n + 1)
-ahead-onward f shows s n = rw add-one

@@ -1,1 +1,2 @@
+mod Room
 mod Written

@@ -1,5 +1,5 @@
 ghost use Rattle.script.specs.Plans.{plan-of};
-ghost use Rattle.script.specs.States.{state-of};
+ghost use Rattle.script.specs.States.{No-room, state-of};
 ghost use Rattle.script.specs.Replies.{refusal-of};
 ghost use Rattle.script.specs.Turns.{at-first, begins, ends, keeps, proposes, turn};
 ghost use Rattle.std.specs.declared.result.Result.the-variants.{Err, Ok};
@@ -41,11 +41,12 @@ impl Script {
         }
     }
 
-    // Takes a line, given without the byte that ends it. Where memory fails nothing has changed.
+    // Takes a line, given without the byte that ends it. Memory fails only where the line adds a reading
+    // and there is no room for it, and then nothing has changed.
     pub fn line(&mut self, line: &[u8]) -> Result<Reply, AllocError>
         ensures { λ r. ⌜ elim r [
           | Ok reply ↦ (refusal-of reply, state-of (now (self .exit))) ≡ turn (now (line .entry)) (state-of (now (self .entry)))
-          | Err e ↦ state-of (now (self .exit)) ≡ state-of (now (self .entry))
+          | Err e ↦ (state-of (now (self .exit)) ≡ state-of (now (self .entry))) × No-room (now (self .entry)) (turn (now (line .entry)) (state-of (now (self .entry))))
         ] ⌝ }
     {
         match Command::of(line) {
@@ -81,14 +82,16 @@ impl Script {
     fn propose(&mut self, reading: Proposal) -> Result<Reply, AllocError>
         ensures { λ r. ⌜ elim r [
           | Ok reply ↦ (refusal-of reply, state-of (now (self .exit))) ≡ proposes reading (state-of (now (self .entry)))
-          | Err e ↦ state-of (now (self .exit)) ≡ state-of (now (self .entry))
+          | Err e ↦ (state-of (now (self .exit)) ≡ state-of (now (self .entry))) × No-room (now (self .entry)) (proposes reading (state-of (now (self .entry))))
         ] ⌝ }
     {
         if !self.writing {
             return Ok(Reply::Refused(Refusal::Line));
         }
-        self.proposed.push(reading)?;
-        Ok(Reply::Done)
+        match self.proposed.push(reading) {
+            Ok(()) => Ok(Reply::Done),
+            Err(_) => Err(AllocError),
+        }
     }
 
     // The plan that is being written ends, and is ready if list and policy are made.

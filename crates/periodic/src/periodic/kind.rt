@@ -4,6 +4,7 @@ ghost use Rattle.periodic.specs.Positions.{rows-of};
 ghost use Rattle.periodic.specs.Rows.{begun, lowest, mask, periodic-course, periodic-next, run-lowest, same-rows, sampled};
 ghost use Rattle.periodic.specs.declared.row.Row.{Row};
 ghost use Rattle.planner.specs.Timings.{timings-of};
+ghost use Rattle.std.specs.Orderings.{Decides};
 ghost use lib.ListN.{length};
 ghost use mathlib.Core.List.{List, map};
 ghost use mathlib.Core.Path.{_≡_};
@@ -82,7 +83,11 @@ pub impl Policy for Periodic as PeriodicPolicy {
         (mask, row)
     }
 
-    fn same(&self, other: &Self) -> bool {
+    // A yes means that all numbers kept are equal, and where they are it is a yes.
+    fn same(&self, other: &Self) -> bool
+        ensures value { λ r. ⌜ r ≡ same-rows (rows-of (now (self .entry))) (rows-of (now (other .entry))) ⌝ }
+        ensures exact { λ r. ⌜ Decides r (rows-of (now (self .entry)) ≡ rows-of (now (other .entry))) ⌝ }
+    {
         if self.count != other.count {
             return false;
         }

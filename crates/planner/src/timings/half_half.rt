@@ -24,8 +24,8 @@ impl Timings {
     {
         let given = list.rows();
         let mut rows = [Timing { work: 0, period: 0 }; 16];
-        for k in 0..given.len() {
-            rows[k] = half_timed(given[k]);
+        for (k, reading) in given.iter().enumerate() {
+            rows[k] = half_timed(*reading);
         }
         Timings {
             rows,

@@ -35,12 +35,11 @@ impl Timings {
     {
         let given = list.rows();
         let mut rows = [Timing { work: 0, period: 0 }; 16];
-        for k in 0..given.len() {
-            let reading = given[k];
+        for (k, reading) in given.iter().enumerate() {
             let Some(response) = response_time(&rows[0..k], reading.work, reading.validity) else {
                 return Err(Refusal::Response { row: k as u8 + 1 });
             };
-            rows[k] = timed(reading, response);
+            rows[k] = timed(*reading, response);
         }
         Ok(Timings {
             rows,

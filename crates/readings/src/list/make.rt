@@ -92,8 +92,7 @@ fn kept_rows(given: &[Proposal]) -> [Reading; 16]
         work: 0,
         validity: 0,
     }; 16];
-    for k in 0..given.len() {
-        let row = given[k];
+    for (k, row) in given.iter().enumerate() {
         rows[k] = Reading {
             id: row.id as u16,
             work: row.work as u8,

@@ -1,21 +1,25 @@
-use Rattle.policy.proofs.Courses.{stepped, answered, agree-more, differ}
+use mathlib.Core.Bool.{false}
+use Rattle.policy.proofs.Courses.{agree-more, answered, differ, equal-agree, stepped}
 use Rattle.policy.proofs.agree.same_answers.Needs as need
 
-pub returns-then-sampled-other-sampled : need.returns-then-sampled-other-sampled
-returns-then-sampled-other-sampled g c =
-    let p = g .P·Policy .course (g .P·Policy .position (c .args .p .now)) in
-    let q = g .Q·Policy .course (g .Q·Policy .position (c .args .q .now)) in
-    let a = answered (g .P·Policy .course) (g .P·Policy .position (c .loop-slot .left)) p (c .loop-slot .slot) (c .step-sampled .result) (c .step-sampled .ensures .answer) (c .loop-slot .inv .0) in
-    let b = answered (g .Q·Policy .course) (g .Q·Policy .position (c .loop-slot .right)) q (c .loop-slot .slot) (c .step-other-sampled .result) (c .step-other-sampled .ensures .answer) (c .loop-slot .inv .1) in
-    differ p q (c .loop-slot .slot) (c .args .slots) (c .step-sampled .result) (c .step-other-sampled .result) (c .loop-slot-test .taken) a b (c .then-sampled-other-sampled .either)
+pub returns-then-not-step-both : need.returns-then-not-step-both
+returns-then-not-step-both g c =
+    let a = g .P·Policy .course (g .P·Policy .position (c .args .p .now)) in
+    let b = g .Q·Policy .course (g .Q·Policy .position (c .args .q .now)) in
+    let i = c .loop-slot .slot in
+    let e = answered (g .P·Policy .course) (g .Q·Policy .course) (g .P·Policy .position (c .loop-slot .left)) (g .Q·Policy .position (c .loop-slot .right)) a b i (c .step-both .result) (c .loop-slot .inv .0) (c .loop-slot .inv .1) (c .step-both .ensures .answers) in
+    let v = differ a b i (c .args .slots) (c .step-both .result) (c .loop-slot-test .taken) e (c .if-not-step-both .taken) in
+    record { value = v; equal = equal-agree a b (c .args .slots) false v }
 
 pub loop-slot-again : need.loop-slot-again
 loop-slot-again g c =
-    let p = g .P·Policy .course (g .P·Policy .position (c .args .p .now)) in
-    let q = g .Q·Policy .course (g .Q·Policy .position (c .args .q .now)) in
-    let a = answered (g .P·Policy .course) (g .P·Policy .position (c .loop-slot .left)) p (c .loop-slot .slot) (c .step-sampled .result) (c .step-sampled .ensures .answer) (c .loop-slot .inv .0) in
-    let b = answered (g .Q·Policy .course) (g .Q·Policy .position (c .loop-slot .right)) q (c .loop-slot .slot) (c .step-other-sampled .result) (c .step-other-sampled .ensures .answer) (c .loop-slot .inv .1) in (
-      stepped (g .P·Policy .course) (g .P·Policy .next) (g .P·Policy·met .onward) (g .P·Policy .position (c .loop-slot .left)) (g .P·Policy .position (c .step-sampled .last .self)) p (c .loop-slot .slot) (c .step-sampled .ensures .moved) (c .loop-slot .inv .0),
-      stepped (g .Q·Policy .course) (g .Q·Policy .next) (g .Q·Policy·met .onward) (g .Q·Policy .position (c .loop-slot .right)) (g .Q·Policy .position (c .step-other-sampled .last .self)) q (c .loop-slot .slot) (c .step-other-sampled .ensures .moved) (c .loop-slot .inv .1),
-      agree-more p q (c .loop-slot .slot) (c .step-sampled .result) (c .step-other-sampled .result) (c .loop-slot .inv .2) a b (c .if-sampled-other-sampled .left) (c .if-run-other-run .left),
+    let a = g .P·Policy .course (g .P·Policy .position (c .args .p .now)) in
+    let b = g .Q·Policy .course (g .Q·Policy .position (c .args .q .now)) in
+    let i = c .loop-slot .slot in
+    let left = g .P·Policy .position (c .loop-slot .left) in
+    let right = g .Q·Policy .position (c .loop-slot .right) in
+    let e = answered (g .P·Policy .course) (g .Q·Policy .course) left right a b i (c .step-both .result) (c .loop-slot .inv .0) (c .loop-slot .inv .1) (c .step-both .ensures .answers) in (
+      stepped (g .P·Policy .course) (g .P·Policy .next) (g .P·Policy·met .onward) left (g .P·Policy .position (c .step-both .last .p)) a i (c .step-both .ensures .p-moved) (c .loop-slot .inv .0),
+      stepped (g .Q·Policy .course) (g .Q·Policy .next) (g .Q·Policy·met .onward) right (g .Q·Policy .position (c .step-both .last .q)) b i (c .step-both .ensures .q-moved) (c .loop-slot .inv .1),
+      agree-more a b i (c .step-both .result) (c .loop-slot .inv .2) e (c .if-not-step-both .left),
     )

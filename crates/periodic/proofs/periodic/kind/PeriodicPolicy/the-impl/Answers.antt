@@ -1,6 +1,6 @@
 use mathlib.Core.Path.{ap}
 use mathlib.Core.List.{List}
-use Rattle.policy.specs.Course.{ahead-onward}
+use Rattle.policy.proofs.Stepping.{ahead-onward}
 use Rattle.periodic.specs.declared.row.Row.{Row}
 use Rattle.periodic.specs.Rows.{periodic-answer, periodic-course, periodic-next}
 use Rattle.periodic.proofs.Sames.{rows-from-same}
