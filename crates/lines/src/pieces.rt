@@ -6,7 +6,7 @@ ghost use Rattle.lines.specs.Pieces.{pieces};
 ghost use Rattle.lines.specs.Left.{left, none-left};
 
 // The pieces of a text that are still to be handed out.
-#[derive(Drop)]
+#[derive(Clone, Copy)]
 pub struct Pieces<'a> {
     // what lies behind the last separator that was passed
     rest: &'a [u8],

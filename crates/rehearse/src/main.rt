@@ -1,7 +1,10 @@
-// Rehearses a script from standard input: reads it, and writes an answer for each of its lines.
-use script::rehearse::LONGEST_SCRIPT;
-use script::rehearse::rehearse;
+// Rehearses a script from standard input: reads it, and writes the answer to each of its lines.
+use script::rehearsal::LONGEST_SCRIPT;
+use script::rehearsal::Rehearsal;
+use script::reply::ReplyDisplay;
 use std::error::AnyError;
+use std::io;
+use std::io::BufWriter;
 use std::io::Read;
 use std::io::Write;
 
@@ -10,11 +13,20 @@ fn main(rt: LibcRuntime) -> Result<(), AnyError> {
 }
 
 fn run(rt: &LibcRuntime) -> Result<(), AnyError> {
-    // one byte more than a script may have, so that a longer one is seen to be longer
+    let text = read_script(rt)?;
+    let mut rehearsal = Rehearsal::new(rt.alloc(), text.as_slice());
+    let mut out = BufWriter::new(rt.stdout());
+    while let Some(reply) = rehearsal.reply()? {
+        writeln!(out, "{reply}")?;
+    }
+    out.flush()?;
+    Ok(())
+}
+
+// The script, or one byte more than a script may have of a longer one.
+fn read_script(rt: &LibcRuntime) -> io::Result<Vec<u8>> {
     let mut input = rt.stdin().take(LONGEST_SCRIPT as u64 + 1);
     let mut text = Vec::new(rt.alloc());
     input.read_to_end(&mut text)?;
-    let written = rehearse(rt.alloc(), text.as_slice())?;
-    rt.stdout().write_all(written.as_bytes())?;
-    Ok(())
+    Ok(text)
 }

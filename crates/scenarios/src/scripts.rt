@@ -1,10 +1,23 @@
-use script::rehearse::rehearse;
+use script::rehearsal::Rehearsal;
+use script::reply::ReplyDisplay;
 use std::alloc::AllocError;
+use std::alloc::Global;
 use std::test::*;
+
+// What is written for the script.
+fn rehearsed(heap: Global, text: &[u8]) -> Result<String, AllocError> {
+    let mut written = String::new(heap);
+    let mut rehearsal = Rehearsal::new(heap, text);
+    while let Some(reply) = rehearsal.reply()? {
+        let line = format!(heap, "{reply}\n")?;
+        written.push_str(line.as_str())?;
+    }
+    Ok(written)
+}
 
 // Whether this is what is written for the script.
 fn writes(rt: &LibcRuntime, text: &[u8], expected: &str) -> Result<bool, AllocError> {
-    let written = rehearse(rt.alloc(), text)?;
+    let written = rehearsed(rt.alloc(), text)?;
     Ok(written.as_str() == expected)
 }
 
@@ -103,7 +116,7 @@ fn lines_that_are_malformed(rt: LibcRuntime) -> Result<(), Fail> {
 fn a_script_of_the_greatest_length(rt: LibcRuntime) -> Result<(), Fail> {
     let heap = rt.alloc();
     let longest = vec![in heap; b'\n'; 16_384]?;
-    let written = rehearse(heap, longest.as_slice())?;
+    let written = rehearsed(heap, longest.as_slice())?;
     check_eq(written.len(), 16_384 * 6)?;
     let longer = vec![in heap; b'\n'; 16_385]?;
     check(writes(&rt, longer.as_slice(), "no 24\n")?)

@@ -1,5 +1,6 @@
+pub mod Coming
 pub mod Plans
 pub mod Replies
 pub mod States
-pub mod Transcript
+pub mod Texts
 pub mod Turns

@@ -1,5 +1,5 @@
-// The meaning of a rehearsal script: what each line does, and what is written for it.
+// The meaning of a rehearsal script: what each line does, and how it is answered.
 pub mod plan;
-pub mod rehearse;
+pub mod rehearsal;
 pub mod reply;
 pub mod script;
