@@ -1,16 +1,16 @@
 -- More-Less row by row, and its laws.
-use Prim.Native.Nat.{ℕ, suc, _+_, _-_, _≤_, _<_}
+use Prim.Native.Nat.{ℕ, _+_, _-_, _≤_, _<_}
 use mathlib.Core.Path.{_≡_, refl, ap, sym, subst, _∙_}
 use mathlib.Core.List.{List, [], _∷_, _++_}
-use mathlib.Core.Logic.{_⊎_, inl, inr}
+use mathlib.Core.Logic.{inl, inr}
 use native.Mathlib.Omega.{arith}
 use lib.ListN.{length, getD, take, drop}
 use Rattle.std.specs.Options.{Cases}
 use Rattle.std.specs.declared.option.Option.{Option}
 use Rattle.std.specs.declared.option.Option.the-variants.{Some, None}
 use Rattle.std.specs.declared.result.Result.{Result}
-use Rattle.std.specs.declared.result.Result.the-variants.{Ok, Err}
-use Rattle.std.proofs.shelf.Lists.{append-assoc, append-nil, at-drop-more, getD-append-left, getD-at, getD-push, length-append, length-push, take-all, take-append-le, take-at}
+use Rattle.std.specs.declared.result.Result.the-variants.{Err}
+use Rattle.std.proofs.shelf.Lists.{append-assoc, append-nil, at-drop-more, getD-append-left, getD-at, length-append, length-push, take-append-le, take-at}
 use Rattle.std.proofs.shelf.Tests.{cases-lt}
 use Rattle.readings.specs.Ranges.{blank as no-reading}
 use Rattle.readings.specs.Refusals.{Told}

@@ -1,5 +1,4 @@
 -- The rows of a `Timings`, as a list.
-use Prim.Native.Nat.{ℕ}
 use mathlib.Core.List.{List}
 use lib.ListN.{take}
 use Rattle.planner.specs.declared.timing.Timing.{Timing}

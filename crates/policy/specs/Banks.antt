@@ -2,7 +2,7 @@
 use Prim.Native.Nat.{ℕ}
 use mathlib.Core.Bool.{Bool, cond, _&&_}
 use lib.Dec.{eqb}
-use Rattle.policy.specs.Course.{Answer, Course}
+use Rattle.policy.specs.Course.{Course}
 
 -- the course of a bank is that of the used policy
 abbrev pub bank-course : {A B : Type 0} → (A → Course) → (B → Course) → A × B × ℕ → Course

@@ -10,7 +10,7 @@ use Rattle.readings.specs.Lists.{kept, no-proposal, row-refusal}
 use Rattle.readings.specs.Ranges.{Id-range, Validity-range, Work-range, blank}
 use Rattle.readings.specs.declared.reading.Proposal.{Proposal}
 use Rattle.readings.specs.declared.reading.Reading.{Reading}
-use Rattle.readings.proofs.Refused.{Sound, sound, not-there}
+use Rattle.readings.proofs.Refused.{sound, not-there}
 
 module _ (ps : List Proposal) (rows : List Reading) (filled : take (length ps) rows ≡ map kept ps) (none : (k : ℕ) → k < length ps → row-refusal ps k ≡ None) where
   row-at : (k : ℕ) → k < length ps → getD rows k blank ≡ kept (getD ps k no-proposal)

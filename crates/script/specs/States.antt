@@ -1,6 +1,5 @@
 -- The state that a value of `Script` stands for, and when its memory runs out.
-use Prim.Native.Nat.{ℕ, _≤_, _<_}
-use mathlib.Core.List.{List}
+use Prim.Native.Nat.{_≤_, _<_}
 use lib.ListN.{length}
 use Rattle.std.specs.Of.Vec.{vec-cap, vec-items, vec-len}
 use Rattle.std.specs.Options.{mapped}

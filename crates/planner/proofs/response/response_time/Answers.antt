@@ -1,7 +1,7 @@
-use Prim.Native.Nat.{ℕ, _+_, _/_, _≤_, _<_}
-use mathlib.Core.Path.{_≡_, ap, sym, _∙_}
+use Prim.Native.Nat.{_+_}
+use mathlib.Core.Path.{_≡_}
 use native.Mathlib.Omega.{arith}
-use Rattle.planner.specs.Response.{demand, Settles}
+use Rattle.planner.specs.Response.{demand}
 use Rattle.planner.proofs.Settling.{none-below, rises, settled, unsettled}
 use Rattle.planner.proofs.response.response_time.Needs as need
 

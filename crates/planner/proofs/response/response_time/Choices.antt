@@ -1,5 +1,4 @@
 use Prim.Native.Nat.{ℕ, _+_, _-_, _≤_, _<_}
-use mathlib.Core.Path.{_≡_}
 use Rattle.planner.specs.Response.{demand, Settles}
 use Rattle.planner.proofs.response.response_time.Given as given
 

@@ -1,7 +1,7 @@
-use Prim.Native.Nat.{ℕ, _≤_, _<_}
-use mathlib.Core.Path.{_≡_, ap, sym, _∙_}
+use Prim.Native.Nat.{_<_}
+use mathlib.Core.Path.{ap, _∙_}
 use native.Mathlib.Omega.{arith}
-use lib.ListN.{getD, length}
+use lib.ListN.{length}
 use Rattle.std.proofs.shelf.Lists.{length-set}
 use Rattle.readings.proofs.Filled.{filled-more, filled-all}
 use Rattle.readings.specs.Ranges.{blank as no-reading}

@@ -1,12 +1,12 @@
 use Prim.Native.Nat.{ℕ, _+_, _<_}
 use mathlib.Core.Path.{_≡_, sym, _∙_}
-use mathlib.Core.Bool.{Bool, true, _||_}
+use mathlib.Core.Bool.{true, _||_}
 use mathlib.Core.List.{List}
 use native.Mathlib.Omega.{arith}
 use lib.Dec.{eqb}
 use lib.ListN.{length, getD, drop}
 use Rattle.std.proofs.shelf.Lists.{at-drop-more, at-drop-all}
-use Rattle.std.proofs.shelf.Tests.{eq-eqb, ne-eqb, or-left}
+use Rattle.std.proofs.shelf.Tests.{eq-eqb, or-left}
 use Rattle.std.proofs.shelf.Ways.{tells}
 use Rattle.readings.specs.Lists.{has-id, no-proposal}
 use Rattle.readings.specs.declared.reading.Proposal.{Proposal}

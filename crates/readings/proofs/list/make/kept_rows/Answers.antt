@@ -1,7 +1,7 @@
-use Prim.Native.Nat.{ℕ, _-_, _<_}
+use Prim.Native.Nat.{ℕ, _-_}
 use mathlib.Core.Path.{_≡_, ap, refl, sym, _∙_}
 use native.Mathlib.Omega.{arith}
-use lib.ListN.{length, drop, replicate}
+use lib.ListN.{length, drop}
 use Rattle.std.proofs.shelf.Lists.{length-set}
 use Rattle.readings.specs.Lists.{kept, no-proposal}
 use Rattle.readings.specs.Ranges.{blank, all-blank}

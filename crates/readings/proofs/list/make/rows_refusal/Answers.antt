@@ -1,5 +1,5 @@
 use Prim.Native.Nat.{_+_, _-_}
-use mathlib.Core.Path.{_≡_, sym, _∙_}
+use mathlib.Core.Path.{sym, _∙_}
 use lib.ListN.{length}
 use Rattle.readings.specs.Lists.{row-refusal, rows-refusal}
 use Rattle.readings.proofs.Refused.{rows-more, ends-here, goes-on}
