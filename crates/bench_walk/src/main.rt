@@ -1,5 +1,7 @@
 // Walks a policy of 16 rows that neither repeats nor faults, as many times as its argument says, and writes how
 // many of the walks ended for want of a repeat.
+#![tactic(auto)]
+
 use periodic::periodic::Periodic;
 use planner::timings::Timings;
 use readings::list::Readings;

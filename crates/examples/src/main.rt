@@ -1,5 +1,7 @@
 // Runs worked examples from start to end, and writes for each what was asked, what was answered and whether that
 // is as expected.
+#![tactic(auto)]
+
 mod asked;
 mod ending;
 mod kinds;

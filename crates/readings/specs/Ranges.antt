@@ -1,5 +1,5 @@
 -- What the rows of a list hold.
-use Rattle.std.specs.Prelude.{◌≡◌, ℕ, ◌+◌, ◌<◌, ◌≤◌, Bool, true, ◌&&◌, List, [], ◌∷◌, length, get_or, ◌==◌, ◌≢◌, slice_index_or}
+use Rattle.std.specs.Prelude.{ℕ, ◌+◌, ◌<◌, ◌≤◌, Bool, true, ◌&&◌, List, [], ◌∷◌, length, get_or, ◌==◌, ◌≢◌, slice_index_or}
 use Rattle.readings.specs.declared.reading.Reading.{Reading}
 
 -- what stands past the last row

@@ -1,4 +1,6 @@
 // Rehearses a script from standard input: reads it, and writes the answer to each of its lines.
+#![tactic(auto)]
+
 use script::rehearsal::{LONGEST_SCRIPT, Rehearsal};
 use std::io;
 use std::io::{BufWriter, Read, Write};

@@ -1,4 +1,6 @@
 // Worked examples of planning and of scripts, as tests.
+#![tactic(auto)]
+
 #[cfg(test)]
 mod planning;
 #[cfg(test)]

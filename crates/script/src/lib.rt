@@ -1,4 +1,6 @@
 // The meaning of a rehearsal script: what each line does, and how it is answered.
+#![tactic(auto)]
+
 pub mod plan;
 pub mod rehearsal;
 pub mod reply;

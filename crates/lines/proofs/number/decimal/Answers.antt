@@ -8,8 +8,8 @@ use Rattle.lines.proofs.number.decimal.Goals as goal
 read_more : (n : ℕ) (s : List ℕ) (i : ℕ) → i < length s → decimal n (drop i s) ≡ cond (digit (get_or s i 0)) (decimal (n * 10 + (get_or s i 0 - 48)) (drop (i + 1) s)) None
 read_more n s i h = at_drop_more (decimal n) s i 0 h
 
-pub returns-then-not-is-ascii-digit : goal.returns-then-not-is-ascii-digit
-returns-then-not-is-ascii-digit c =
+pub returns-then-not-is_ascii_digit : goal.returns-then-not-is_ascii_digit
+returns-then-not-is_ascii_digit c =
     let more = read_more c.loop-byte.value c.args.digits.now c.loop-byte.byte-index (omega arith) in
     grind arith
 

@@ -29,7 +29,7 @@ loop-slot-preserved g c =
     let loop = c.loop-slot in
     let here = m.state c.turn.new.here in
     let mark = c.turn.new.mark in
-    let turn = c.in-default.ensures in
+    let turn = c.in_default.ensures in
     let none : ◌≡◌ {A = Option (Found g.row.S-Fault.Denot)} None None = refl in
     onward m.fault m.next m.alike s loop.slot (m.state loop.here) loop.mark.instant (m.state loop.mark.kept) loop.invariant here mark.instant (m.state mark.kept) turn.ends (turn.moved none) (turn.marked none) (turn.copied none)
 

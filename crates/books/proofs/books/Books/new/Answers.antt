@@ -15,12 +15,19 @@ loop-k-preserved c =
       length-set c.loop-k.rows c.loop-k.k c.new.result ∙ c.loop-k.invariant.1,
     )
 
-pub invariant-of-result : goal.invariant-of-result
-invariant-of-result c =
+pub invariant_of-result : goal.invariant_of-result
+invariant_of-result c =
     let given = c.rows-readings.result.now in
     let filled = filled_all come_on c.loop-k.rows given c.loop-k.k c.loop-k-test.false c.loop-k.auto.k-end c.loop-k.invariant.0 in
     let h = began given c.loop-k.rows c.rows-readings.ensures.law c.loop-k.invariant.1 filled in
-    (h.long, (h.few, (h.validities, (h.ages, (h.spare, (h.jobs, tt))))))
+    record {
+      long = h.long;
+      few = h.few;
+      validities = h.validities;
+      fresh = h.ages;
+      spare = h.spare;
+      jobs = h.jobs;
+    }
 
 pub returns : goal.returns
 returns c =

@@ -7,8 +7,8 @@ use Rattle.books.proofs.Held.{after_spare, held_spare, lent, room, taken}
 use Rattle.books.proofs.Keeps.{fresh_young}
 use Rattle.books.proofs.books.Books.take.Goals as goal
 
-pub first-of-slot-requires : goal.first-of-slot-requires
-first-of-slot-requires c = (
+pub first_of_slot-requires : goal.first_of_slot-requires
+first_of_slot-requires c = (
   c.rows.ensures.law.few,
   (
     fresh_young c.rows.result.now c.rows.ensures.law,
@@ -16,22 +16,29 @@ first-of-slot-requires c = (
   ),
 )
 
-pub turn-all-shown-requires : goal.turn-all-shown-requires
-turn-all-shown-requires c = room c.args.self.now
+pub turn_all-shown-requires : goal.turn_all-shown-requires
+turn_all-shown-requires c = room c.args.self.now
 
-pub next-margin-self-requires : goal.next-margin-self-requires
-next-margin-self-requires c =
-    let calm : fault c.args.answer (rows_of c.args.self.now) ≡ None = sym (c.in-default.ensures ∙ ap (fault c.args.answer) c.rows.ensures.value) in
-    after_spare c.args.self.now c.args.answer c.turn-all-shown.new.rows calm c.turn-all-shown.ensures.done
+pub next_margin-self-requires : goal.next_margin-self-requires
+next_margin-self-requires c =
+    let calm : fault c.args.answer (rows_of c.args.self.now) ≡ None = sym (c.in_default.ensures ∙ ap (fault c.args.answer) c.rows.ensures.value) in
+    after_spare c.args.self.now c.args.answer c.turn_all-shown.new.rows calm c.turn_all-shown.ensures.done
 
-pub invariant-of-self : goal.invariant-of-self
-invariant-of-self c =
-    let calm : fault c.args.answer (rows_of c.args.self.now) ≡ None = sym (c.in-default.ensures ∙ ap (fault c.args.answer) c.rows.ensures.value) in
-    let t = taken c.args.self.now c.args.answer c.turn-all-shown.new.rows c.next-margin-self.result calm c.turn-all-shown.ensures.done c.next-margin-self.ensures in
-    (t.holds.long, (t.holds.few, (t.holds.validities, (t.holds.ages, (t.holds.spare, (t.holds.jobs, tt))))))
+pub invariant_of-self : goal.invariant_of-self
+invariant_of-self c =
+    let calm : fault c.args.answer (rows_of c.args.self.now) ≡ None = sym (c.in_default.ensures ∙ ap (fault c.args.answer) c.rows.ensures.value) in
+    let t = taken c.args.self.now c.args.answer c.turn_all-shown.new.rows c.next_margin-self.result calm c.turn_all-shown.ensures.done c.next_margin-self.ensures in
+    record {
+      long = t.holds.long;
+      few = t.holds.few;
+      validities = t.holds.validities;
+      fresh = t.holds.ages;
+      spare = t.holds.spare;
+      jobs = t.holds.jobs;
+    }
 
 pub returns : goal.returns
 returns c =
-    let calm : fault c.args.answer (rows_of c.args.self.now) ≡ None = sym (c.in-default.ensures ∙ ap (fault c.args.answer) c.rows.ensures.value) in
-    let t = taken c.args.self.now c.args.answer c.turn-all-shown.new.rows c.next-margin-self.result calm c.turn-all-shown.ensures.done c.next-margin-self.ensures in
-    (calm, c.turn-all-shown.ensures.told ∙ ap (shown_row c.args.answer) (lent c.args.self.now.count c.args.self.now.rows), t.after)
+    let calm : fault c.args.answer (rows_of c.args.self.now) ≡ None = sym (c.in_default.ensures ∙ ap (fault c.args.answer) c.rows.ensures.value) in
+    let t = taken c.args.self.now c.args.answer c.turn_all-shown.new.rows c.next_margin-self.result calm c.turn_all-shown.ensures.done c.next_margin-self.ensures in
+    (calm, c.turn_all-shown.ensures.told ∙ ap (shown_row c.args.answer) (lent c.args.self.now.count c.args.self.now.rows), t.after)

@@ -13,7 +13,7 @@ returns-in-Some c =
 
 pub loop-k-preserved : goal.loop-k-preserved
 loop-k-preserved c =
-    first_more (sample_fault c.args.answer c.args.rows.now) 16 c.loop-k.k c.loop-k-test.true c.loop-k.invariant c.in-default.ensures
+    first_more (sample_fault c.args.answer c.args.rows.now) 16 c.loop-k.k c.loop-k-test.true c.loop-k.invariant c.in_default.ensures
 
 pub returns : goal.returns
 returns c = first_all (sample_fault c.args.answer c.args.rows.now) 16 c.loop-k.k c.loop-k-test.false c.loop-k.invariant

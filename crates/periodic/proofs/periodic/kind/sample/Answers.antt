@@ -6,11 +6,11 @@ use Rattle.periodic.proofs.periodic.kind.sample.Goals as goal
 pub loop-k-init : goal.loop-k-init
 loop-k-init c = sampled_none c.args.rows.now
 
-pub overflow-mul-mask : goal.overflow-mul-mask
-overflow-mul-mask c = let r = mask_room c.args.rows.now c.loop-k.k c.requires (omega arith) in omega arith
+pub overflow_mul-mask : goal.overflow_mul-mask
+overflow_mul-mask c = let r = mask_room c.args.rows.now c.loop-k.k c.requires (omega arith) in omega arith
 
-pub overflow-add-mask : goal.overflow-add-mask
-overflow-add-mask c =
+pub overflow_add-mask : goal.overflow_add-mask
+overflow_add-mask c =
     let r = mask_room c.args.rows.now c.loop-k.k c.requires (omega arith) in
     let b = byte_small c.sample.result in
     omega arith

@@ -11,14 +11,19 @@ loop-k-preserved c =
     let given = c.rows-given.result.now in
     let inside : c.loop-k.k < length c.loop-k.rows = omega (arith, c.rows-given.ensures.law.few, c.loop-k.invariant.1) in
     let valid = c.rows-given.ensures.law.validities c.loop-k.k c.loop-k-test.true in (
-      filled_more half_timed c.loop-k.rows given c.loop-k.k no-reading c.half-timed.result c.loop-k-test.true inside c.loop-k.invariant.0 c.half-timed.ensures,
+      filled_more half_timed c.loop-k.rows given c.loop-k.k no-reading c.half_timed.result c.loop-k-test.true inside c.loop-k.invariant.0 c.half_timed.ensures,
       simp length-set c.loop-k.invariant.1,
-      positive_more c.loop-k.rows c.loop-k.k c.half-timed.result inside c.loop-k.invariant.2 (rw c.half-timed.ensures (omega arith)),
+      positive_more c.loop-k.rows c.loop-k.k c.half_timed.result inside c.loop-k.invariant.2 (rw c.half_timed.ensures (omega arith)),
     )
 
-pub invariant-of-result : goal.invariant-of-result
-invariant-of-result c =
-    (c.loop-k.invariant.1, (c.rows-given.ensures.law.some, (c.rows-given.ensures.law.few, (λ k h. c.loop-k.invariant.2 k (omega arith), tt))))
+pub invariant_of-result : goal.invariant_of-result
+invariant_of-result c =
+    record {
+      long = c.loop-k.invariant.1;
+      some = c.rows-given.ensures.law.some;
+      few = c.rows-given.ensures.law.few;
+      positive = λ k h. c.loop-k.invariant.2 k (omega arith);
+    }
 
 pub returns : goal.returns
 returns c =

@@ -15,8 +15,8 @@ use Rattle.planner.proofs.timings.Timings.more_less.Goals as goal
 above_is : (k : ℕ) (rows : List Timing) → take (k - 0) rows ≡ take k rows
 above_is k rows = ap (λ (n : ℕ). take n rows) (omega arith)
 
-pub response-time-requires : goal.response-time-requires
-response-time-requires c =
+pub response_time-requires : goal.response_time-requires
+response_time-requires c =
     let e = above_is c.loop-k.k c.loop-k.rows in
     let n : length (take c.loop-k.k c.loop-k.rows) ≡ c.loop-k.k = length-take-le c.loop-k.k c.loop-k.rows (omega (arith, c.loop-k.invariant.1, c.rows-given.ensures.law.few)) in
     let v = c.rows-given.ensures.law.validities c.loop-k.k c.loop-k-test.true in
@@ -26,12 +26,12 @@ response-time-requires c =
       positive = rw e (λ k h. let below : k < c.loop-k.k = omega arith in rw (get_or-take c.loop-k.k c.loop-k.rows k blank below) (c.loop-k.invariant.2 k below));
     }
 
-pub returns-in-default : goal.returns-in-default
-returns-in-default c =
+pub returns-in_default : goal.returns-in_default
+returns-in_default c =
     let given = c.rows-given.result.now in
     let above = take c.loop-k.k c.loop-k.rows in
     let e = above_is c.loop-k.k c.loop-k.rows in
-    let none : response_time above (get_or given c.loop-k.k no-reading).work (get_or given c.loop-k.k no-reading).validity ≡ None = rw e at (sym c.in-default.ensures) in
+    let none : response_time above (get_or given c.loop-k.k no-reading).work (get_or given c.loop-k.k no-reading).validity ≡ None = rw e at (sym c.in_default.ensures) in
     let n : length above ≡ c.loop-k.k = length-take-le c.loop-k.k c.loop-k.rows (omega (arith, c.loop-k.invariant.1, c.rows-given.ensures.law.few)) in
     let ended = below_ends above given c.loop-k.k c.loop-k-test.true none in
     record {

@@ -4,24 +4,26 @@ use Rattle.readings.proofs.Kept.{ids, works, validities, apart, ordered}
 use Rattle.readings.proofs.Refused.{counted, none_at}
 use Rattle.readings.proofs.list.Readings.new.Goals as goal
 
-pub kept-rows-rows-requires : goal.kept-rows-rows-requires
-kept-rows-rows-requires c =
+pub kept_rows-rows-requires : goal.kept_rows-rows-requires
+kept_rows-rows-requires c =
     let ps = c.args.given.now in
-    ((counted (length ps) c.if-not-is-count.ensures).1, λ k h. none_at ps 0 (length ps) (sym c.in-None.ensures) k (omega arith) (omega arith))
+    ((counted (length ps) c.if-not-is_count.ensures).1, λ k h. none_at ps 0 (length ps) (sym c.in-None.ensures) k (omega arith) (omega arith))
 
-pub invariant-of-result : goal.invariant-of-result
-invariant-of-result c =
+pub invariant_of-result : goal.invariant_of-result
+invariant_of-result c =
     let ps = c.args.given.now in
-    let rows = c.kept-rows-rows.result in
-    let filled = c.kept-rows-rows.ensures.rows in
-    let count = counted (length ps) c.if-not-is-count.ensures in
-    let none : (k : ℕ) → k < length ps → row_refusal ps k ≡ None = λ k h. none_at ps 0 (length ps) (sym c.in-None.ensures) k (omega arith) (omega arith) in (
-      c.kept-rows-rows.ensures.long,
-      (
-        count.0,
-        (
-          count.1,
-          (ids ps rows filled none, (works ps rows filled none, (validities ps rows filled none, (apart ps rows filled none, (ordered ps rows filled none, (c.kept-rows-rows.ensures.rest, tt)))))),
-        ),
-      ),
-    )
+    let rows = c.kept_rows-rows.result in
+    let filled = c.kept_rows-rows.ensures.rows in
+    let count = counted (length ps) c.if-not-is_count.ensures in
+    let none : (k : ℕ) → k < length ps → row_refusal ps k ≡ None = λ k h. none_at ps 0 (length ps) (sym c.in-None.ensures) k (omega arith) (omega arith) in
+    record {
+      long = c.kept_rows-rows.ensures.long;
+      some = count.0;
+      few = count.1;
+      ids = ids ps rows filled none;
+      works = works ps rows filled none;
+      validities = validities ps rows filled none;
+      apart = apart ps rows filled none;
+      ordered = ordered ps rows filled none;
+      rest = c.kept_rows-rows.ensures.rest;
+    }

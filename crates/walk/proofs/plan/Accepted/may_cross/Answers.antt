@@ -9,11 +9,11 @@ use Rattle.walk.specs.Crossings.{in_time}
 use Rattle.walk.proofs.Crossing.{all_in_time, not_in_time, tells}
 use Rattle.walk.proofs.plan.Accepted.may_cross.Goals as goal
 
-pub returns-then-not-is-idle : goal.returns-then-not-is-idle
-returns-then-not-is-idle g c =
+pub returns-then-not-is_idle : goal.returns-then-not-is_idle
+returns-then-not-is_idle g c =
     let a = c.args.self.now in
     let t = tells (rows_of c.args.books.now) (readings-of a.list) (g.P.Policy.course (g.P.Policy.position a.policy)) a.finishes false
-    (refused (λ m. both_ways c.is-idle.result c.if-not-is-idle.true (c.is-idle.ensures.1 m.idle))) in
+    (refused (λ m. both_ways c.is_idle.result c.if-not-is_idle.true (c.is_idle.ensures.1 m.idle))) in
     record { test = t.test; exact = t.exact }
 
 pub returns-then-not-passes : goal.returns-then-not-passes
@@ -29,7 +29,7 @@ loop-k-preserved g c = below_more _ _ c.loop-k.invariant (sym c.if-not-passes.en
 pub returns : goal.returns
 returns g c =
     let a = c.args.self.now in
-    let idle = c.is-idle.ensures.0 c.if-not-is-idle.false in
+    let idle = c.is_idle.ensures.0 c.if-not-is_idle.false in
     let m = all_in_time (rows_of c.args.books.now) (readings-of a.list) c.rows-reading-items.result.now a.finishes c.loop-k.k c.rows-reading-items.ensures.value c.loop-k-test.false idle c.loop-k.invariant in
     let t = tells (rows_of c.args.books.now) (readings-of a.list) (g.P.Policy.course (g.P.Policy.position a.policy)) a.finishes true ((λ _. m), (λ _. refl)) in
     record { test = t.test; exact = t.exact }

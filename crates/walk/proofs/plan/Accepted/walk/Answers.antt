@@ -12,8 +12,8 @@ use Rattle.walk.proofs.Finishing.{new_unshown}
 use Rattle.walk.specs.Walking.{fault_is}
 use Rattle.walk.proofs.plan.Accepted.walk.Goals as goal
 
-pub first-finishes-finishes-requires : goal.first-finishes-finishes-requires
-first-finishes-finishes-requires g c =
+pub first_finishes-finishes-requires : goal.first_finishes-finishes-requires
+first_finishes-finishes-requires g c =
     let p = g.P.Policy.position c.args.policy in
     record {
       calm = λ n. sym (fault_is g.P.Policy.course g.P.Policy.next g.met.P.Policy.onward p (rows_of c.new.result) n) ∙ c.in-Repeat.ensures.ever n;
@@ -29,8 +29,8 @@ returns-in-Repeat g c =
     let w = walked kind g.met.P.Policy.onward p (rows_of c.new.result) _ c.new.ensures.value (Repeat c.in-Repeat.mark c.in-Repeat.instant) c.in-Repeat.ensures.found c.in-Repeat.ensures.only (granted c.accept.result.mark c.accept.result.length) (ap (λ (a : Accepted _). granted a.mark a.length) is) in
     let calm : (n : ℕ) → fault_at (g.P.Policy.course p) (rows_of c.new.result) n ≡ None =
     λ n. sym (fault_is g.P.Policy.course g.P.Policy.next g.met.P.Policy.onward p (rows_of c.new.result) n) ∙ c.in-Repeat.ensures.ever n in
-    let accepts : Accepts (g.P.Policy.course p) (rows_of c.new.result) c.first-finishes-finishes.result = record { calm = calm; finish = c.first-finishes-finishes.ensures } in
-    let here = subst (λ (rs : List Row). Accepts (g.P.Policy.course p) rs c.first-finishes-finishes.result) c.new.ensures.value accepts in
+    let accepts : Accepts (g.P.Policy.course p) (rows_of c.new.result) c.first_finishes-finishes.result = record { calm = calm; finish = c.first_finishes-finishes.ensures } in
+    let here = subst (λ (rs : List Row). Accepts (g.P.Policy.course p) rs c.first_finishes-finishes.result) c.new.ensures.value accepts in
     record {
       walks = w.walks;
       only = w.only;

@@ -8,8 +8,8 @@ use Rattle.walk.proofs.Finishing.{Noted, noted_all, noted_on}
 use Rattle.walk.specs.Walking.{advanced, rows_at}
 use Rattle.walk.proofs.plan.accept.first_finishes.Goals as goal
 
-pub returns-then-note-all : goal.returns-then-note-all
-returns-then-note-all g c =
+pub returns-then-note_all : goal.returns-then-note_all
+returns-then-note_all g c =
     let course = g.P.Policy.course in
     let p = g.P.Policy.position c.args.start.now.policy in
     let rs = rows_of c.args.start.now.books in
@@ -18,8 +18,8 @@ returns-then-note-all g c =
     let e = c.rows.ensures.value ∙ rows_at course g.P.Policy.next g.met.P.Policy.onward p rs (n + 1) _ t in
     λ k h.
     let l : length c.rows.result.now ≡ length rs = ap length e ∙ books_length (course p) rs (n + 1) in
-    (noted_on (course p) rs n c.rows.result.now c.loop-slot.finishes c.note-all.new.finishes e c.loop-slot.invariant.1 c.note-all.ensures.noted k h).some
-    (c.note-all.ensures.all c.if-note-all.true k (omega arith))
+    (noted_on (course p) rs n c.rows.result.now c.loop-slot.finishes c.note_all.new.finishes e c.loop-slot.invariant.1 c.note_all.ensures.noted k h).some
+    (c.note_all.ensures.all c.if-note_all.true k (omega arith))
 
 pub loop-slot-preserved : goal.loop-slot-preserved
 loop-slot-preserved g c =
@@ -29,7 +29,7 @@ loop-slot-preserved g c =
     let n = c.loop-slot.slot in
     let t = advanced course g.P.Policy.next g.met.P.Policy.onward p rs n _ _ c.step.result c.loop-slot.invariant.0 c.step.ensures.met c.step.ensures.moved (c.requires.calm n) in
     let e = c.rows.ensures.value ∙ rows_at course g.P.Policy.next g.met.P.Policy.onward p rs (n + 1) _ t in
-    (t, noted_on (course p) rs n c.rows.result.now c.loop-slot.finishes c.note-all.new.finishes e c.loop-slot.invariant.1 c.note-all.ensures.noted)
+    (t, noted_on (course p) rs n c.rows.result.now c.loop-slot.finishes c.note_all.new.finishes e c.loop-slot.invariant.1 c.note_all.ensures.noted)
 
 pub returns : goal.returns
 returns g c =

@@ -1,10 +1,10 @@
 use Rattle.periodic.proofs.Steps.{stepped}
 use Rattle.periodic.proofs.periodic.kind.PeriodicPolicy.step.Goals as goal
 
-pub invariant-of-self : goal.invariant-of-self
-invariant-of-self c =
+pub invariant_of-self : goal.invariant_of-self
+invariant_of-self c =
     let s = stepped c.args.self.now.long c.args.self.now.few c.sample-mask.ensures.told c.sample-mask.ensures.taken c.run-row.ensures.told c.run-row.ensures.done in
-    (s.long, (c.args.self.now.few, tt))
+    record { long = s.long; few = c.args.self.now.few }
 
 pub returns : goal.returns
 returns c =
