@@ -13,7 +13,7 @@ use Rattle.books.specs.Slots.{sampled, turned}
 abbrev turn_of : Bool → Bool → Row → Row
 turn_of samp run r = closed (grown (cond run (ran (cond samp (opened r) r)) (cond samp (opened r) r)))
 
-module _ (c : Course) (k w : ℕ) (some-work : 0 < w) where
+module _ (c : Course) (k w : ℕ) (some_work : 0 < w) where
   run_count : (s n : ℕ) (b : Bool) → s ≤ n → eqb (c n).1 (k + 1) ≡ b → runs c k s (n + 1) ≡ runs c k s n + cond b 1 0
   run_count s n b h e = rw (add-one, le-leb s n h, e)
 

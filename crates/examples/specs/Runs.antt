@@ -41,8 +41,8 @@ pub record Stands (c : Course) (ds : List Reading) (n : ℕ) (books : Books) (on
   pub course_is : (m : ℕ) → onward m ≡ c (n + m)
 
 abbrev pub AfterAnswer : {P : Type 0} → (P → Course) → Course → List Reading → ℕ → Result (Books × P) Refusal → Type 0
-AfterAnswer course-of c ds n (Ok w) = Stands c ds n w.0 (course-of w.1)
-AfterAnswer course-of c ds n (Err r) = Faulty c ds
+AfterAnswer course_of c ds n (Ok w) = Stands c ds n w.0 (course_of w.1)
+AfterAnswer course_of c ds n (Err r) = Faulty c ds
 
 -- what slot n does
 abbrev pub SlotAnswer : Course → List Reading → ℕ → Result Ending Refusal → Type 0

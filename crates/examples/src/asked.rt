@@ -2,7 +2,7 @@ ghost use Rattle.examples.specs.Given.{RulesGive, RulesGiveOnly, WalkEnds, XToY,
 ghost use Rattle.examples.specs.Runs.{AfterAnswer, FinishAnswer, Planned, SlotAnswer, comes_to};
 ghost use Rattle.periodic.specs.Positions.{rows_of as kept_of};
 ghost use Rattle.planner.specs.Periods.{half_half};
-ghost use Rattle.readings.specs.Lists.{rows_of as readings-of};
+ghost use Rattle.readings.specs.Lists.{rows_of as readings_of};
 ghost use Rattle.std.specs.Prelude.{◌≡◌, length};
 
 use crate::ending::Ending;
@@ -113,19 +113,19 @@ impl Asked {
 }
 
 fn half_half(list: &Readings) -> Periodic
-    ensures { kept_of result ≡ start (half_half (readings-of list.now)) }
+    ensures { kept_of result ≡ start (half_half (readings_of list.now)) }
 {
     Periodic::new(&Timings::half_half(list))
 }
 
 fn more_less(list: &Readings) -> Result<Periodic, Refusal>
-    ensures { Planned (readings-of list.now) result }
+    ensures { Planned (readings_of list.now) result }
 {
     Ok(Periodic::new(&Timings::more_less(list)?))
 }
 
 fn granted<P: Policy>(list: &Readings, policy: P) -> Result<Ending, Refusal>
-    ensures { WalkEnds (record { course = P.Policy.course; next = P.Policy.next; alike = P.Policy.alike }) (P.Policy.position policy) (readings-of list.now) (comes_to result) }
+    ensures { WalkEnds (record { course = P.Policy.course; next = P.Policy.next; alike = P.Policy.alike }) (P.Policy.position policy) (readings_of list.now) (comes_to result) }
 {
     let plan = Accepted::walk(list, policy)?;
     Ok(Ending::Granted {
@@ -135,8 +135,8 @@ fn granted<P: Policy>(list: &Readings, policy: P) -> Result<Ending, Refusal>
 }
 
 fn finishes<P: Policy>(list: &Readings, policy: P) -> Result<Ending, Refusal>
-    requires { length (readings-of list.now) ≡ 3 }
-    ensures { FinishAnswer (record { course = P.Policy.course; next = P.Policy.next; alike = P.Policy.alike }) (P.Policy.position policy) (readings-of list.now) result }
+    requires { length (readings_of list.now) ≡ 3 }
+    ensures { FinishAnswer (record { course = P.Policy.course; next = P.Policy.next; alike = P.Policy.alike }) (P.Policy.position policy) (readings_of list.now) result }
 {
     let plan = Accepted::walk(list, policy)?;
     let finishes = plan.first_finishes();
@@ -145,7 +145,7 @@ fn finishes<P: Policy>(list: &Readings, policy: P) -> Result<Ending, Refusal>
 
 // The books of a list after so many slots of a policy, and the policy there.
 fn after<P: Policy>(list: &Readings, mut policy: P, slots: u16) -> Result<(Books, P), Refusal>
-    ensures { AfterAnswer (λ q. P.Policy.course (P.Policy.position q)) (P.Policy.course (P.Policy.position policy)) (readings-of list.now) slots result }
+    ensures { AfterAnswer (λ q. P.Policy.course (P.Policy.position q)) (P.Policy.course (P.Policy.position policy)) (readings_of list.now) slots result }
 {
     let mut books = Books::new(list);
     for slot in 0..slots {
@@ -158,7 +158,7 @@ fn after<P: Policy>(list: &Readings, mut policy: P, slots: u16) -> Result<(Books
 
 // What one more slot after so many does.
 fn slot_after<P: Policy>(list: &Readings, policy: P, slots: u16) -> Result<Ending, Refusal>
-    ensures { SlotAnswer (P.Policy.course (P.Policy.position policy)) (readings-of list.now) slots result }
+    ensures { SlotAnswer (P.Policy.course (P.Policy.position policy)) (readings_of list.now) slots result }
 {
     let (mut books, mut policy) = after(list, policy, slots)?;
     match books.take(policy.step()) {
@@ -169,7 +169,7 @@ fn slot_after<P: Policy>(list: &Readings, policy: P, slots: u16) -> Result<Endin
 
 // Whether a board that runs X by More-Less may cross to Y by More-Less after so many slots.
 fn crossing_after(x: &Readings, y: &Readings, slots: u16) -> Result<Ending, Refusal>
-    requires { (readings-of x.now ≡ readings_x) × (readings-of y.now ≡ readings_y) }
+    requires { (readings_of x.now ≡ readings_x) × (readings_of y.now ≡ readings_y) }
     ensures { XToY slots (comes_to result) }
 {
     let (books, _policy) = after(x, more_less(x)?, slots)?;

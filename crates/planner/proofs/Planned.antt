@@ -2,7 +2,7 @@
 use Rattle.std.proofs.Common.{◌≡◌, ℕ, ◌+◌, ◌-◌, ◌<◌, ◌≤◌, List, [], ◌∷◌, ◌++◌, length, get_or, take, drop, Some, None, Err, Option, Result, sym, refl, ap, ◌∙◌, subst, inl, inr, arith, MatchOption}
 use Rattle.std.proofs.lemmas.List.{append_assoc, append-nil, at_drop_more, get_or_append_left, get_or_at, length-append, length_push, take-append-le, take_at}
 use Rattle.std.proofs.lemmas.Bool.{cases_lt}
-use Rattle.readings.specs.Ranges.{blank as no-reading}
+use Rattle.readings.specs.Ranges.{blank as no_reading}
 use Rattle.readings.specs.Refusals.{Told}
 use Rattle.readings.specs.declared.reading.Reading.{Reading}
 use Rattle.planner.specs.Periods.{MoreLess, NoneAt, Planned, more_less, more_less_below, timed}
@@ -20,11 +20,11 @@ by_response above r rs None = Err (5, (length above + 1) ∷ [])
 goes_by : (above : List Timing) (r : Reading) (rs : List Reading) (o : Option ℕ) → response_time above r.work r.validity ≡ o → more_less_below above (r ∷ rs) ≡ by_response above r rs o
 goes_by above r rs o e = subst (λ (p : Option ℕ). more_less_below above (r ∷ rs) ≡ by_response above r rs p) e refl
 
-pub below_more : (above : List Timing) (given : List Reading) (k d : ℕ) → k < length given → response_time above (get_or given k no-reading).work (get_or given k no-reading).validity ≡ Some d → more_less_below above (drop k given) ≡ more_less_below (above ++ timed (get_or given k no-reading) ((get_or given k no-reading).validity - d) ∷ []) (drop (k + 1) given)
-below_more above given k d h e = at_drop_more (more_less_below above) given k no-reading h ∙ goes_by above (get_or given k no-reading) (drop (k + 1) given) (Some d) e
+pub below_more : (above : List Timing) (given : List Reading) (k d : ℕ) → k < length given → response_time above (get_or given k no_reading).work (get_or given k no_reading).validity ≡ Some d → more_less_below above (drop k given) ≡ more_less_below (above ++ timed (get_or given k no_reading) ((get_or given k no_reading).validity - d) ∷ []) (drop (k + 1) given)
+below_more above given k d h e = at_drop_more (more_less_below above) given k no_reading h ∙ goes_by above (get_or given k no_reading) (drop (k + 1) given) (Some d) e
 
-pub below_ends : (above : List Timing) (given : List Reading) (k : ℕ) → k < length given → response_time above (get_or given k no-reading).work (get_or given k no-reading).validity ≡ None → more_less_below above (drop k given) ≡ Err (5, (length above + 1) ∷ [])
-below_ends above given k h e = at_drop_more (more_less_below above) given k no-reading h ∙ goes_by above (get_or given k no-reading) (drop (k + 1) given) None e
+pub below_ends : (above : List Timing) (given : List Reading) (k : ℕ) → k < length given → response_time above (get_or given k no_reading).work (get_or given k no_reading).validity ≡ None → more_less_below above (drop k given) ≡ Err (5, (length above + 1) ∷ [])
+below_ends above given k h e = at_drop_more (more_less_below above) given k no_reading h ∙ goes_by above (get_or given k no_reading) (drop (k + 1) given) None e
 
 none_planned : MoreLess [] []
 none_planned = record { count = refl; works = λ k h. absurd (omega arith); within = λ k h. absurd (omega arith); responses = λ k h. absurd (omega arith) }
@@ -46,21 +46,21 @@ module _ (done : List Reading) (above : List Timing) (law : MoreLess done above)
       last_response = let e : r.validity - (r.validity - d) ≡ d = omega (arith, half_low) in rw e found
 
       -- what holds of the rows done and of the new one holds of each
-      by_place : (k : ℕ) → k < length (done ++ r ∷ []) → (P : Reading → Timing → List Timing → Type 0) → (k < length done → P (get_or done k no-reading) (get_or above k blank) (take k above)) → P r (timed r (r.validity - d)) above → P (get_or (done ++ r ∷ []) k no-reading) (get_or (above ++ timed r (r.validity - d) ∷ []) k blank) (take k (above ++ timed r (r.validity - d) ∷ []))
+      by_place : (k : ℕ) → k < length (done ++ r ∷ []) → (P : Reading → Timing → List Timing → Type 0) → (k < length done → P (get_or done k no_reading) (get_or above k blank) (take k above)) → P r (timed r (r.validity - d)) above → P (get_or (done ++ r ∷ []) k no_reading) (get_or (above ++ timed r (r.validity - d) ∷ []) k blank) (take k (above ++ timed r (r.validity - d) ∷ []))
       by_place k h P old here =
           let n = length_push done r in
           let m = law.count in
           elim (cases_lt k (length done)) [
             | inl less ↦
                 rw (
-                  get_or_append_left done (r ∷ []) no-reading k less,
+                  get_or_append_left done (r ∷ []) no_reading k less,
                   get_or_append_left above (timed r (r.validity - d) ∷ []) blank k (omega arith),
                   take-append-le k above (timed r (r.validity - d) ∷ []) (omega arith),
                 ) (old less)
             | inr more ↦
                 (let e : length done ≡ k = omega arith in
                 let f : length above ≡ k = omega arith in
-                rw (get_or_at done r [] no-reading k e, get_or_at above (timed r (r.validity - d)) [] blank k f, take_at above (timed r (r.validity - d) ∷ []) k f) here)
+                rw (get_or_at done r [] no_reading k e, get_or_at above (timed r (r.validity - d)) [] blank k f, take_at above (timed r (r.validity - d) ∷ []) k f) here)
           ]
 
 -- the row without a response time
@@ -71,7 +71,7 @@ none_at done above law r rs none =
       inside = simp length-append (omega arith);
       above = above;
       planned_above = rw (take_at done (r ∷ rs) (length above) e) law;
-      unsettled = rw (get_or_at done r rs no-reading (length above) e) none;
+      unsettled = rw (get_or_at done r rs no_reading (length above) e) none;
     }
 
 pub planned_below : (done : List Reading) (above : List Timing) → MoreLess done above → (rs : List Reading) → Planned (done ++ rs) (more_less_below above rs)

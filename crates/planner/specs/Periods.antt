@@ -1,6 +1,6 @@
 -- The periods that each planner gives to the rows of a list.
 use Rattle.std.specs.Prelude.{◌≡◌, ℕ, ◌+◌, ◌-◌, ◌/◌, ◌<◌, ◌≤◌, List, [], ◌∷◌, ◌++◌, map, length, take, Some, None, Ok, Err, Result, slice_index_or}
-use Rattle.readings.specs.Ranges.{blank as no-reading}
+use Rattle.readings.specs.Ranges.{blank as no_reading}
 use Rattle.readings.specs.Refusals.{Told}
 use Rattle.readings.specs.declared.reading.Reading.{Reading}
 use Rattle.planner.specs.Response.{response_time, Response, NoResponse}
@@ -35,16 +35,16 @@ more_less = more_less_below []
 -- response time together
 pub record MoreLess (rs : List Reading) (ts : List Timing) : Type 0 where
   pub count : length ts ≡ length rs
-  pub works : (k : ℕ) → k < length rs → (slice_index_or ts k blank).work ≡ (slice_index_or rs k no-reading).work
-  pub within : (k : ℕ) → k < length rs → (slice_index_or ts k blank).period ≤ (slice_index_or rs k no-reading).validity
-  pub responses : (k : ℕ) → k < length rs → Response (take k ts) (slice_index_or rs k no-reading).work (slice_index_or rs k no-reading).validity ((slice_index_or rs k no-reading).validity - (slice_index_or ts k blank).period)
+  pub works : (k : ℕ) → k < length rs → (slice_index_or ts k blank).work ≡ (slice_index_or rs k no_reading).work
+  pub within : (k : ℕ) → k < length rs → (slice_index_or ts k blank).period ≤ (slice_index_or rs k no_reading).validity
+  pub responses : (k : ℕ) → k < length rs → Response (take k ts) (slice_index_or rs k no_reading).work (slice_index_or rs k no_reading).validity ((slice_index_or rs k no_reading).validity - (slice_index_or ts k blank).period)
 
 -- the law of its refusal: row k + 1 is the first without a response time
 pub record NoneAt (rs : List Reading) (k : ℕ) : Type 0 where
   pub inside : k < length rs
   pub above : List Timing
   pub planned_above : MoreLess (take k rs) above
-  pub unsettled : NoResponse above (slice_index_or rs k no-reading).work (slice_index_or rs k no-reading).validity
+  pub unsettled : NoResponse above (slice_index_or rs k no_reading).work (slice_index_or rs k no_reading).validity
 
 -- both laws
 abbrev pub Planned : List Reading → Result (List Timing) Told → Type 0

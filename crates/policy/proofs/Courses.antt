@@ -9,10 +9,10 @@ stepped course next onward s t c i e far m = ap (λ (x : _). course x m) e ∙ o
 
 -- the answers of a step are those that the courses have there
 pub answered : {S T : Type 0} (left : S → Course) (right : T → Course) (s : S) (t : T) (a b : Course) (i : ℕ) (r : Bool) → ((n : ℕ) → left s n ≡ a (i + n)) → ((n : ℕ) → right t n ≡ b (i + n)) → r ≡ same_answer (left s 0) (right t 0) → r ≡ same_answer (a i) (b i)
-answered left right s t a b i r far-left far-right e =
+answered left right s t a b i r far_left far_right e =
     let here : i + 0 ≡ i = omega arith in
-    let x : left s 0 ≡ a i = far-left 0 ∙ ap a here in
-    let y : right t 0 ≡ b i = far-right 0 ∙ ap b here in
+    let x : left s 0 ≡ a i = far_left 0 ∙ ap a here in
+    let y : right t 0 ≡ b i = far_right 0 ∙ ap b here in
     cc
 
 -- one more slot with equal answers

@@ -1,12 +1,12 @@
 -- A plan: a list, and a policy for it.
 use Rattle.std.specs.Prelude.{List, map, Some, None, Ok, Err, Result}
-use Rattle.readings.specs.Lists.{kept, list_refusal, rows_of as list-rows}
+use Rattle.readings.specs.Lists.{kept, list_refusal, rows_of as list_rows}
 use Rattle.readings.specs.Refusals.{Told}
 use Rattle.readings.specs.declared.reading.Proposal.{Proposal}
 use Rattle.readings.specs.declared.reading.Reading.{Reading}
 use Rattle.planner.specs.Periods.{half_half, more_less}
 use Rattle.planner.specs.declared.timing.Timing.{Timing}
-use Rattle.periodic.specs.Positions.{rows_of as policy-rows}
+use Rattle.periodic.specs.Positions.{rows_of as policy_rows}
 use Rattle.periodic.specs.Rows.{begun}
 use Rattle.periodic.specs.declared.row.Row.{Row}
 use Rattle.script.specs.declared.plan.Plan.{Plan}
@@ -19,7 +19,7 @@ pub record Ready : Type 0 where
   pub policy : List Row
 
 abbrev pub plan_of : Plan → Ready
-plan_of p = record { list = list-rows p.list; policy = policy-rows p.policy }
+plan_of p = record { list = list_rows p.list; policy = policy_rows p.policy }
 
 -- the periods that a planner gives to the rows of a list, or its refusal
 abbrev pub timed_by : Planner → List Reading → Result (List Timing) Told

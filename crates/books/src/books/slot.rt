@@ -6,7 +6,7 @@ ghost use Rattle.books.specs.Rows.{come_on, same_rows};
 ghost use Rattle.books.specs.Parts.{Spare, Young, finishes, grown_fault, passed};
 ghost use Rattle.books.specs.Slots.{each_from, fault, first_fault, lowest_from, run, run_fault, sample_fault, sampled, shown_row, slot};
 ghost use Rattle.policy.specs.Course.{names};
-ghost use Rattle.readings.specs.Lists.{rows_of as readings-of};
+ghost use Rattle.readings.specs.Lists.{rows_of as readings_of};
 
 use super::Books;
 use crate::fault::{Fault, Step};
@@ -188,7 +188,7 @@ impl Books {
     // The books of a list whose rows all come on now. Whatever course they are then taken along, ages count
     // from samples as long as no slot has a fault.
     pub fn new(list: &Readings) -> Books
-        ensures value { rows_of result ≡ map come_on (readings-of list.now) }
+        ensures value { rows_of result ≡ map come_on (readings_of list.now) }
         ensures ages { AgesCounted (rows_of result) }
     {
         let readings = list.rows();

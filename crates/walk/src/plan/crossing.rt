@@ -1,6 +1,6 @@
 ghost use Rattle.books.specs.Held.{rows_of};
 ghost use Rattle.books.specs.Lookups.{Idle, row_of};
-ghost use Rattle.readings.specs.Lists.{rows_of as readings-of};
+ghost use Rattle.readings.specs.Lists.{rows_of as readings_of};
 ghost use Rattle.std.specs.Prelude.{◌≡◌, Decides};
 ghost use Rattle.walk.specs.Crossings.{Keeps, MayCross, in_time};
 ghost use Rattle.walk.specs.Plans.{Accepts, new_rows};
@@ -34,8 +34,8 @@ impl<P: Policy> Accepted<P> {
     // validity before its first value by the new plan. For a plan that a walk accepted, that is exactly when no
     // job is open and a crossing now keeps every shared reading valid for ever.
     pub fn may_cross(&self, books: &Books) -> bool
-        ensures test { Decides result (MayCross (rows_of books.now) (readings-of self.now.list) self.now.finishes) }
-        ensures exact { Accepts (P.Policy.course (P.Policy.position self.now.policy)) (new_rows self.now.list) self.now.finishes → Decides result (Idle (rows_of books.now) × Keeps (rows_of books.now) (readings-of self.now.list) (P.Policy.course (P.Policy.position self.now.policy))) }
+        ensures test { Decides result (MayCross (rows_of books.now) (readings_of self.now.list) self.now.finishes) }
+        ensures exact { Accepts (P.Policy.course (P.Policy.position self.now.policy)) (new_rows self.now.list) self.now.finishes → Decides result (Idle (rows_of books.now) × Keeps (rows_of books.now) (readings_of self.now.list) (P.Policy.course (P.Policy.position self.now.policy))) }
     {
         if !books.is_idle() {
             return false;

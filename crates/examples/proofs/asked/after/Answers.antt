@@ -6,4 +6,4 @@ use Rattle.examples.proofs.asked.after.Goals as goal
 pub loop-slot-preserved : goal.loop-slot-preserved
 loop-slot-preserved g c =
     let course = g.P.Policy.course in
-    stood (course (g.P.Policy.position c.args.policy)) (rows_of c.args.list.now) c.loop-slot.slot c.loop-slot.books c.take.new.self (course (g.P.Policy.position c.loop-slot.policy)) (course (g.P.Policy.position c.step.new.self)) c.step.result c.loop-slot.invariant c.step.ensures.answer c.in-default.ensures.2 (λ m. ap (λ (p : g.P.Policy.Position). course p m) c.step.ensures.moved ∙ g.met.P.Policy.onward (g.P.Policy.position c.loop-slot.policy) m)
+    stood (course (g.P.Policy.position c.args.policy)) (rows_of c.args.list.now) c.loop-slot.slot c.loop-slot.books c.take.new.self (course (g.P.Policy.position c.loop-slot.policy)) (course (g.P.Policy.position c.step.new.self)) c.step.result c.loop-slot.invariant c.step.ensures.answer c.in_default.ensures.2 (λ m. ap (λ (p : g.P.Policy.Position). course p m) c.step.ensures.moved ∙ g.met.P.Policy.onward (g.P.Policy.position c.loop-slot.policy) m)

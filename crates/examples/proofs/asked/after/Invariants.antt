@@ -1,7 +1,7 @@
-use Rattle.readings.specs.Lists.{rows_of as readings-of}
+use Rattle.readings.specs.Lists.{rows_of as readings_of}
 use Rattle.examples.specs.Runs.{Stands}
 use Rattle.examples.proofs.asked.after.Given as goal
 
 abbrev pub invariant-loop-slot : goal.invariant-loop-slot
 invariant-loop-slot g l =
-    Stands (g.P.Policy.course (g.P.Policy.position l.initial.policy)) (readings-of l.list) l.slot l.books (g.P.Policy.course (g.P.Policy.position l.policy))
+    Stands (g.P.Policy.course (g.P.Policy.position l.initial.policy)) (readings_of l.list) l.slot l.books (g.P.Policy.course (g.P.Policy.position l.policy))

@@ -1,7 +1,7 @@
 use Rattle.std.proofs.Common.{◌≡◌, ℕ, ◌+◌, ◌-◌, ◌<◌, List, [], ◌∷◌, ◌++◌, length, get_or, take, drop, Some, None, Ok, Err, sym, ap, ◌∙◌, arith}
 use Rattle.std.proofs.lemmas.List.{drop_all, get_or-take, length-set, length-take-le, take_more_set}
 use Rattle.readings.specs.Lists.{rows_of}
-use Rattle.readings.specs.Ranges.{blank as no-reading}
+use Rattle.readings.specs.Ranges.{blank as no_reading}
 use Rattle.planner.specs.Periods.{more_less, more_less_below}
 use Rattle.planner.specs.Response.{response_time}
 use Rattle.planner.specs.Timing.{blank}
@@ -31,7 +31,7 @@ returns-in_default c =
     let given = c.rows-given.result.now in
     let above = take c.loop-k.k c.loop-k.rows in
     let e = above_is c.loop-k.k c.loop-k.rows in
-    let none : response_time above (get_or given c.loop-k.k no-reading).work (get_or given c.loop-k.k no-reading).validity ≡ None = rw e at (sym c.in_default.ensures) in
+    let none : response_time above (get_or given c.loop-k.k no_reading).work (get_or given c.loop-k.k no_reading).validity ≡ None = rw e at (sym c.in_default.ensures) in
     let n : length above ≡ c.loop-k.k = length-take-le c.loop-k.k c.loop-k.rows (omega (arith, c.loop-k.invariant.1, c.rows-given.ensures.law.few)) in
     let ended = below_ends above given c.loop-k.k c.loop-k-test.true none in
     record {
@@ -41,7 +41,7 @@ returns-in_default c =
 
 pub timed-requires : goal.timed-requires
 timed-requires c =
-    let it = get_or c.rows-given.result.now c.loop-k.k no-reading in
+    let it = get_or c.rows-given.result.now c.loop-k.k no_reading in
     let d = response_is (take (c.loop-k.k - 0) c.loop-k.rows) it.work it.validity c.in-Some.response (sym c.in-Some.ensures) in
     omega (arith, d.half)
 
@@ -49,7 +49,7 @@ pub loop-k-preserved : goal.loop-k-preserved
 loop-k-preserved c =
     let given = c.rows-given.result.now in
     let k = c.loop-k.k in
-    let it = get_or given k no-reading in
+    let it = get_or given k no_reading in
     let above = take k c.loop-k.rows in
     let new = c.timed.result in
     let e = above_is k c.loop-k.rows in

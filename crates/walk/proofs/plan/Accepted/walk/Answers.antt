@@ -1,4 +1,4 @@
-use Rattle.std.proofs.Common.{◌≡◌, ℕ, ◌-◌, List, [], None, sym, refl, ap, ◌∙◌, subst}
+use Rattle.std.proofs.Common.{◌≡◌, ℕ, List, [], None, sym, refl, ap, ◌∙◌, subst}
 use Rattle.repeat.specs.declared.found.Found.TheVariants.{Fault, Nowhere, Repeat}
 use Rattle.books.specs.Held.{rows_of}
 use Rattle.books.specs.Slots.{fault_at}
