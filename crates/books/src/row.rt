@@ -51,7 +51,8 @@ impl Row {
 
     // What is wrong with the row once a slot more has passed.
     pub(crate) fn stale_next(&self, row: u8) -> Option<Fault>
-        requires { (self.now.age < 65535) × (job_age self.now.job < 65535) }
+        requires age { self.now.age < 65535 }
+        requires job { job_age self.now.job < 65535 }
         ensures { result ≡ row_fault Judge (grown self.now) row }
     {
         let mut later = *self;
@@ -90,7 +91,8 @@ impl Row {
 
     // Lets a slot pass.
     pub(crate) fn grow(&mut self)
-        requires { (self.old.age < 65535) × (job_age self.old.job < 65535) }
+        requires age { self.old.age < 65535 }
+        requires job { job_age self.old.job < 65535 }
         ensures { self.new ≡ grown self.old }
     {
         self.age += 1;
@@ -121,7 +123,8 @@ impl Row {
 
     // Lets a slot pass, closes a job without work left, and says whether there was one.
     pub(crate) fn pass(&mut self) -> bool
-        requires { (self.old.age < 65535) × (job_age self.old.job < 65535) }
+        requires age { self.old.age < 65535 }
+        requires job { job_age self.old.job < 65535 }
         ensures told { result ≡ finished (grown self.old).job }
         ensures done { self.new ≡ closed (grown self.old) }
     {

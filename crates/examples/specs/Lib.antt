@@ -1,3 +1,4 @@
 pub mod Given
+pub mod Kinds
 pub mod Made
 pub mod Runs

@@ -169,7 +169,8 @@ fn slot_after<P: Policy>(list: &Readings, policy: P, slots: u16) -> Result<Endin
 
 // Whether a board that runs X by More-Less may cross to Y by More-Less after so many slots.
 fn crossing_after(x: &Readings, y: &Readings, slots: u16) -> Result<Ending, Refusal>
-    requires { (readings_of x.now ≡ readings_x) × (readings_of y.now ≡ readings_y) }
+    requires list_x { readings_of x.now ≡ readings_x }
+    requires list_y { readings_of y.now ≡ readings_y }
     ensures { XToY slots (comes_to result) }
 {
     let (books, _policy) = after(x, more_less(x)?, slots)?;

@@ -1,5 +1,5 @@
-ghost use Rattle.std.specs.Prelude.{true, false};
-ghost use Rattle.std.proofs.Common.{rules};
+ghost use Rattle.std.specs.Prelude.{true, false, refl};
+ghost use Rattle.examples.specs.Kinds.{never_alike};
 
 use policy::policy::Policy;
 
@@ -18,9 +18,9 @@ impl Policy for Asleep {
 
     ghost alike = { λ _ _. true };
 
-    ghost onward = { Prim.search rules };
+    ghost onward = { λ _ _. refl };
 
-    ghost agree = { Prim.search rules };
+    ghost agree = { λ _ _ _ _. refl };
 
     fn step(&mut self) -> (u16, u8) {
         (0, 0)
@@ -50,9 +50,9 @@ impl<P: Policy> Policy for Doubting<P> {
 
     ghost alike = { λ _ _. false };
 
-    ghost onward = { Prim.search rules };
+    ghost onward = { P.Policy.onward };
 
-    ghost agree = { Prim.search rules };
+    ghost agree = { λ p q h n. never_alike (P.Policy.course p n) (P.Policy.course q n) h };
 
     fn step(&mut self) -> (u16, u8) {
         self.0.step()

@@ -3,5 +3,6 @@ mod Masks
 mod Phases
 mod Played
 mod Runs
+mod Sames
 mod Samples
 mod Steps

@@ -1,6 +1,6 @@
 ghost use Rattle.std.specs.Prelude.{ℕ};
 ghost use Rattle.policy.specs.Banks.{bank_alike, bank_course, bank_next};
-ghost use Rattle.std.proofs.Common.{rules};
+ghost use Rattle.policy.specs.BankLaws;
 
 use crate::policy::Policy;
 
@@ -23,9 +23,9 @@ impl<A: Policy, B: Policy> Policy for Bank<A, B> {
 
     ghost alike = { bank_alike A.Policy.alike B.Policy.alike };
 
-    ghost onward = { Prim.search rules };
+    ghost onward = { λ k n. BankLaws.onward A.Policy.course B.Policy.course A.Policy.next B.Policy.next A.Policy.onward B.Policy.onward k n };
 
-    ghost agree = { Prim.search rules };
+    ghost agree = { λ x y h n. BankLaws.agree A.Policy.course B.Policy.course A.Policy.alike B.Policy.alike A.Policy.agree B.Policy.agree x y h n };
 
     fn step(&mut self) -> (u16, u8) {
         if self.used == 1 {

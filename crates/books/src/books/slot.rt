@@ -82,7 +82,9 @@ fn run_fault(rows: &[Row], answer: (u16, u8)) -> Option<Fault>
 
 // The first row that is stale once all ages have grown: none within the margin.
 fn first_stale(rows: &[Row], margin: u16) -> Option<Fault>
-    requires { (length rows.now ≤ 16) × ((Young rows.now) × (Spare rows.now margin)) }
+    requires few { length rows.now ≤ 16 }
+    requires young { Young rows.now }
+    requires spare { Spare rows.now margin }
     ensures { result ≡ first_fault (grown_fault rows.now) 0 (length rows.now) }
 {
     if margin > 0 {
@@ -110,7 +112,8 @@ fn margin_of(rows: &[Row]) -> u16
 
 // The margin a slot later: one less, or worked out anew where it was used up.
 fn next_margin(rows: &[Row], margin: u16) -> u16
-    requires { (Spare rows.now 0) × ((0 < margin → Spare rows.now (margin - 1))) }
+    requires valid { Spare rows.now 0 }
+    requires spare { 0 < margin → Spare rows.now (margin - 1) }
     ensures { Spare rows.now result }
 {
     if margin > 0 {
@@ -122,7 +125,9 @@ fn next_margin(rows: &[Row], margin: u16) -> u16
 
 // The first fault of a slot, in the order of its steps.
 fn first_of_slot(rows: &[Row], answer: (u16, u8), margin: u16) -> Option<Fault>
-    requires { (length rows.now ≤ 16) × ((Young rows.now) × (Spare rows.now margin)) }
+    requires few { length rows.now ≤ 16 }
+    requires young { Young rows.now }
+    requires spare { Spare rows.now margin }
     ensures { result ≡ fault answer rows.now }
 {
     if let Some(fault) = first_sample_fault(rows, answer) {
@@ -160,7 +165,8 @@ fn run_one(rows: &mut [Row], answer: (u16, u8))
 // Steps 3 and 5: lets a slot pass for all rows, closes the jobs without work left, and answers the lowest row
 // whose value goes on show, or 0.
 fn pass_all(rows: &mut [Row]) -> u8
-    requires { (length rows.old ≤ 16) × (Young rows.old) }
+    requires few { length rows.old ≤ 16 }
+    requires young { Young rows.old }
     ensures told { result ≡ lowest_from finishes 0 rows.old }
     ensures done { rows.new ≡ each_from passed 0 rows.old }
 {
@@ -175,7 +181,8 @@ fn pass_all(rows: &mut [Row]) -> u8
 
 // Takes all rows through a slot, and answers the row whose value goes on show, or 0.
 fn turn_all(rows: &mut [Row], answer: (u16, u8)) -> u8
-    requires { (length rows.old ≤ 16) × (Young rows.old) }
+    requires few { length rows.old ≤ 16 }
+    requires young { Young rows.old }
     ensures told { result ≡ shown_row answer rows.old }
     ensures done { rows.new ≡ slot answer rows.old }
 {

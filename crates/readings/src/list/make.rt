@@ -42,7 +42,8 @@ fn has_id(id: u32, rows: &[Proposal]) -> bool
 
 // The first refusal of row k + 1.
 fn row_refusal(rows: &[Proposal], k: usize) -> Option<Refusal>
-    requires { (k < length rows.now) × (k < 16) }
+    requires listed { k < length rows.now }
+    requires few { k < 16 }
     ensures { option_map told result ≡ row_refusal rows.now k }
 {
     let row = k as u8 + 1;
@@ -76,7 +77,8 @@ fn rows_refusal(rows: &[Proposal]) -> Option<Refusal>
 
 // The rows that these numbers make, and zeros past their end.
 fn kept_rows(given: &[Proposal]) -> [Reading; 16]
-    requires { (length given.now ≤ 16) × (((k : ℕ) → k < length given.now → row_refusal given.now k ≡ None)) }
+    requires few { length given.now ≤ 16 }
+    requires unrefused { (k : ℕ) → k < length given.now → row_refusal given.now k ≡ None }
     ensures rows { take (length given.now) result ≡ map kept given.now }
     ensures rest { all_blank (drop (length given.now) result) ≡ true }
     ensures long { length result ≡ 16 }

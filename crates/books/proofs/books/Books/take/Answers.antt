@@ -8,21 +8,20 @@ use Rattle.books.proofs.Keeps.{fresh_young}
 use Rattle.books.proofs.books.Books.take.Goals as goal
 
 pub first_of_slot-requires : goal.first_of_slot-requires
-first_of_slot-requires c = (
-  c.rows.ensures.law.few,
-  (
-    fresh_young c.rows.result.now c.rows.ensures.law,
-    subst (λ (rs : List Row). Spare rs c.args.self.now.margin) (sym c.rows.ensures.value) (held_spare c.args.self.now),
-  ),
-)
+first_of_slot-requires c = record {
+  few = c.rows.ensures.law.few;
+  young = fresh_young c.rows.result.now c.rows.ensures.law;
+  spare = subst (λ (rs : List Row). Spare rs c.args.self.now.margin) (sym c.rows.ensures.value) (held_spare c.args.self.now);
+}
 
 pub turn_all-shown-requires : goal.turn_all-shown-requires
-turn_all-shown-requires c = room c.args.self.now
+turn_all-shown-requires c = let r = room c.args.self.now in record { few = r.0; young = r.1 }
 
 pub next_margin-self-requires : goal.next_margin-self-requires
 next_margin-self-requires c =
     let calm : fault c.args.answer (rows_of c.args.self.now) ≡ None = sym (c.in_default.ensures ∙ ap (fault c.args.answer) c.rows.ensures.value) in
-    after_spare c.args.self.now c.args.answer c.turn_all-shown.new.rows calm c.turn_all-shown.ensures.done
+    let s = after_spare c.args.self.now c.args.answer c.turn_all-shown.new.rows calm c.turn_all-shown.ensures.done in
+    record { valid = s.0; spare = s.1 }
 
 pub invariant_of-self : goal.invariant_of-self
 invariant_of-self c =

@@ -5,7 +5,7 @@ use Rattle.books.proofs.Keeps.{spare_calm}
 use Rattle.books.proofs.books.slot.first_stale.Goals as goal
 
 pub returns-then-margin-gt0 : goal.returns-then-margin-gt0
-returns-then-margin-gt0 c = spare_calm c.args.rows.now c.args.margin c.requires.1.1 c.if-margin-gt0.true
+returns-then-margin-gt0 c = spare_calm c.args.rows.now c.args.margin c.requires.spare c.if-margin-gt0.true
 
 pub returns-in-Some : goal.returns-in-Some
 returns-in-Some c =

@@ -11,10 +11,10 @@ pub pass-requires : goal.pass-requires
 pass-requires c =
     let j = c.loop-k.k - 1 in
     let e = still c.loop-k.k j c.args.rows.now c.loop-k.shown c.loop-k.rows (omega arith) (omega arith) c.loop-k.invariant in
-    let young = c.requires.1 j (omega arith) in
+    let young = c.requires.young j (omega arith) in
     let a : (get_or c.loop-k.rows j blank_row).age ≡ (get_or c.args.rows.now j blank_row).age = ap (λ (r : Row). r.age) e in
     let b : job_age (get_or c.loop-k.rows j blank_row).job ≡ job_age (get_or c.args.rows.now j blank_row).job = ap (λ (r : Row). job_age r.job) e in
-    (omega arith, omega arith)
+    record { age = omega arith; job = omega arith }
 
 pub loop-k-preserved-then-pass : goal.loop-k-preserved-then-pass
 loop-k-preserved-then-pass c =

@@ -10,7 +10,10 @@ pass_all-requires c =
     let a = c.args.answer in
     let rs = c.args.rows.now in
     let w = worked_is a rs c.open_all.new.rows c.run_one.new.rows c.open_all.ensures c.run_one.ensures in
-    (omega (arith, ap length w, length_each (worked a) 0 rs, c.requires.0), subst Young (sym w) (worked_young a rs c.requires.1))
+    record {
+      few = omega (arith, ap length w, length_each (worked a) 0 rs, c.requires.few);
+      young = subst Young (sym w) (worked_young a rs c.requires.young);
+    }
 
 pub returns : goal.returns
 returns c =

@@ -7,7 +7,10 @@ use Rattle.readings.proofs.list.Readings.new.Goals as goal
 pub kept_rows-rows-requires : goal.kept_rows-rows-requires
 kept_rows-rows-requires c =
     let ps = c.args.given.now in
-    ((counted (length ps) c.if-not-is_count.ensures).1, λ k h. none_at ps 0 (length ps) (sym c.in-None.ensures) k (omega arith) (omega arith))
+    record {
+      few = (counted (length ps) c.if-not-is_count.ensures).1;
+      unrefused = λ k h. none_at ps 0 (length ps) (sym c.in-None.ensures) k (omega arith) (omega arith);
+    }
 
 pub invariant_of-result : goal.invariant_of-result
 invariant_of-result c =

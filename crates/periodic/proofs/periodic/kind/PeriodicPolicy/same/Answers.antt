@@ -1,5 +1,5 @@
 use Rattle.std.proofs.Common.{true, false}
-use Rattle.periodic.specs.Sames.{decided, same_all, same_apart, same_ends, same_more}
+use Rattle.periodic.proofs.Sames.{decided, same_all, same_apart, same_ends, same_more}
 use Rattle.periodic.proofs.periodic.kind.PeriodicPolicy.same.Goals as goal
 
 pub returns-then-self-other : goal.returns-then-self-other

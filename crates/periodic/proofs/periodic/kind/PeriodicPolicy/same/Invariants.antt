@@ -1,4 +1,4 @@
-use Rattle.periodic.specs.Sames.{SameBelow}
+use Rattle.periodic.proofs.Sames.{SameBelow}
 use Rattle.periodic.proofs.periodic.kind.PeriodicPolicy.same.Given as goal
 
 abbrev pub invariant-loop-k : goal.invariant-loop-k
