@@ -1,5 +1,5 @@
 -- What the rules give for each example.
-use Rattle.std.specs.Prelude.{◌≡◌, ℕ, ◌<◌, Bool, true, false, List, [], ◌∷◌, map, length, get_or, None, Ok, Decides, slice_index, slice_index_or}
+use Rattle.std.specs.Prelude.{◌≡◌, ℕ, ◌<◌, Bool, true, false, List, [], ◌∷◌, map, length, slice_index_or, None, Ok, Decides, slice_index}
 use Rattle.readings.specs.Ranges.{blank}
 use Rattle.readings.specs.Refusals.{told}
 use Rattle.readings.specs.declared.reading.Reading.{Reading}
@@ -75,7 +75,7 @@ FinishEnds c ds (Refused refusal) = ⊥
 -- a value of this row on show
 pub record JustValid (c : Course) (ds : List Reading) (slot k age row : ℕ) : Type 0 where
   pub reached : (judged (c slot) k (slice_index_or (books_at c (new_books ds) slot) k blank_row)).age ≡ age
-  pub equal : age ≡ (get_or ds k blank).validity
+  pub equal : age ≡ (slice_index_or ds k blank).validity
   pub calm : fault_at c (new_books ds) slot ≡ None
   pub shows : row ≡ shown_row (c slot) (books_at c (new_books ds) slot)
 

@@ -1,5 +1,5 @@
 -- What periodic refresh means, as a law over whole courses, with no word of what a policy keeps.
-use Rattle.std.specs.Prelude.{◌≡◌, ℕ, zero, suc, ◌+◌, ◌-◌, ◌/◌, ◌%◌, ◌^◌, ◌<◌, ◌≤◌, Bool, cond, List, length, get_or, ◌==◌, slice_index_or}
+use Rattle.std.specs.Prelude.{◌≡◌, ℕ, zero, suc, ◌+◌, ◌-◌, ◌/◌, ◌%◌, ◌^◌, ◌<◌, ◌≤◌, Bool, cond, List, length, slice_index_or, ◌==◌}
 use Rattle.policy.specs.Course.{Course}
 use Rattle.planner.specs.Timing.{blank}
 use Rattle.planner.specs.declared.timing.Timing.{Timing}
@@ -16,7 +16,7 @@ left_in t k course (suc n) = cond (suc n % t.period == 0) t.work (left_in t k co
 
 -- a course that samples each row every period, first in slot 0, and runs the lowest row with work left
 pub record Plays (ts : List Timing) (course : Course) : Type 0 where
-  pub samples : (n k : ℕ) → k < length ts → names (course n).0 k ≡ (n % (get_or ts k blank).period == 0)
+  pub samples : (n k : ℕ) → k < length ts → names (course n).0 k ≡ (n % (slice_index_or ts k blank).period == 0)
   pub no_others : (n : ℕ) → (course n).0 < 2 ^ length ts
   pub runs : (n k : ℕ) → k < length ts → (course n).1 ≡ k + 1 → 0 < left_in (slice_index_or ts k blank) k course n
   pub lowest_first : (n j : ℕ) → j < length ts → j + 1 < (course n).1 → left_in (slice_index_or ts j blank) j course n ≡ 0

@@ -1,5 +1,5 @@
 -- Which numbers make a list, and the first refusal of those that do not.
-use Rattle.std.specs.Prelude.{ℕ, zero, suc, ◌+◌, ◌-◌, Bool, false, cond, not, ◌&&◌, ◌||◌, List, [], ◌∷◌, length, get_or, take, Some, None, Option, ◌==◌, nat_le, nat_lt, slice_index_or}
+use Rattle.std.specs.Prelude.{ℕ, zero, suc, ◌+◌, ◌-◌, Bool, false, cond, not, ◌&&◌, ◌||◌, List, [], ◌∷◌, length, slice_index_or, take, Some, None, Option, ◌==◌, nat_le, nat_lt}
 use Rattle.readings.specs.declared.reading.Proposal.{Proposal}
 use Rattle.readings.specs.declared.reading.Reading.{Reading}
 use Rattle.readings.specs.declared.list.Readings.{Readings}
@@ -24,8 +24,8 @@ new_id i above = nat_le 1 i && (nat_le i 65535 && not (has_id i above))
 abbrev pub row_refusal : List Proposal → ℕ → Option Told
 row_refusal ps k =
     cond (not (in_range (slice_index_or ps k no_proposal))) (Some (2, (k + 1) ∷ []))
-    (cond (not (new_id (get_or ps k no_proposal).id (take k ps))) (Some (3, (k + 1) ∷ []))
-    (cond (nat_lt (get_or ps k no_proposal).validity (get_or ps (k - 1) no_proposal).validity) (Some (4, (k + 1) ∷ []))
+    (cond (not (new_id (slice_index_or ps k no_proposal).id (take k ps))) (Some (3, (k + 1) ∷ []))
+    (cond (nat_lt (slice_index_or ps k no_proposal).validity (slice_index_or ps (k - 1) no_proposal).validity) (Some (4, (k + 1) ∷ []))
     None))
 
 abbrev pub or_else : Option Told → Option Told → Option Told

@@ -1,5 +1,5 @@
 -- What the rows of a list hold.
-use Rattle.std.specs.Prelude.{ℕ, ◌+◌, ◌<◌, ◌≤◌, Bool, true, ◌&&◌, List, [], ◌∷◌, length, get_or, ◌==◌, ◌≢◌, slice_index_or}
+use Rattle.std.specs.Prelude.{ℕ, ◌+◌, ◌<◌, ◌≤◌, Bool, true, ◌&&◌, List, [], ◌∷◌, length, slice_index_or, ◌==◌, ◌≢◌}
 use Rattle.readings.specs.declared.reading.Reading.{Reading}
 
 -- what stands past the last row
@@ -29,5 +29,5 @@ pub record WellMade (rs : List Reading) : Type 0 where
   pub ids : (k : ℕ) → k < length rs → IdRange (slice_index_or rs k blank)
   pub works : (k : ℕ) → k < length rs → WorkRange (slice_index_or rs k blank)
   pub validities : (k : ℕ) → k < length rs → ValidityRange (slice_index_or rs k blank)
-  pub apart : (j k : ℕ) → j < k → k < length rs → (get_or rs j blank).id ≢ (get_or rs k blank).id
-  pub ordered : (k : ℕ) → k + 1 < length rs → (get_or rs k blank).validity ≤ (get_or rs (k + 1) blank).validity
+  pub apart : (j k : ℕ) → j < k → k < length rs → (slice_index_or rs j blank).id ≢ (slice_index_or rs k blank).id
+  pub ordered : (k : ℕ) → k + 1 < length rs → (slice_index_or rs k blank).validity ≤ (slice_index_or rs (k + 1) blank).validity

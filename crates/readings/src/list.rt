@@ -1,4 +1,4 @@
-ghost use Rattle.std.specs.Prelude.{◌≡◌, ℕ, ◌+◌, ◌<◌, ◌≤◌, true, length, get_or, drop, ◌≢◌, slice_index_or};
+ghost use Rattle.std.specs.Prelude.{◌≡◌, ℕ, ◌+◌, ◌<◌, ◌≤◌, true, length, slice_index_or, drop, ◌≢◌};
 ghost use Rattle.readings.specs.Ranges.{IdRange, ValidityRange, WorkRange, all_blank, blank};
 
 use crate::reading::Reading;
@@ -17,7 +17,7 @@ pub struct Readings {
     ghost ids: { (k : ℕ) → k < count → IdRange (slice_index_or rows k blank) },
     ghost works: { (k : ℕ) → k < count → WorkRange (slice_index_or rows k blank) },
     ghost validities: { (k : ℕ) → k < count → ValidityRange (slice_index_or rows k blank) },
-    ghost apart: { (j k : ℕ) → j < k → k < count → (get_or rows j blank).id ≢ (get_or rows k blank).id },
-    ghost ordered: { (k : ℕ) → k + 1 < count → (get_or rows k blank).validity ≤ (get_or rows (k + 1) blank).validity },
+    ghost apart: { (j k : ℕ) → j < k → k < count → (slice_index_or rows j blank).id ≢ (slice_index_or rows k blank).id },
+    ghost ordered: { (k : ℕ) → k + 1 < count → (slice_index_or rows k blank).validity ≤ (slice_index_or rows (k + 1) blank).validity },
     ghost rest: { all_blank (drop count rows) ≡ true },
 }

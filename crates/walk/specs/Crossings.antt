@@ -1,5 +1,5 @@
 -- A crossing: at an instant the books of one list become those of another.
-use Rattle.std.specs.Prelude.{◌≡◌, ℕ, ◌+◌, ◌<◌, ◌≤◌, Bool, true, List, map, length, get_or, is_some, Some, None, Option, nat_le, slice_index, slice_index_or}
+use Rattle.std.specs.Prelude.{◌≡◌, ℕ, ◌+◌, ◌<◌, ◌≤◌, Bool, true, List, map, length, slice_index_or, is_some, Some, None, Option, nat_le, slice_index}
 use Rattle.readings.specs.Ranges.{blank}
 use Rattle.readings.specs.declared.reading.Reading.{Reading}
 use Rattle.policy.specs.Course.{Course}
@@ -21,8 +21,8 @@ crossed old new = map (λ d. carry d (row_of old d.id)) new
 -- among these rows, each whose id the old books have is valid
 abbrev pub SharedValid : List Row → List Row → Type 0
 SharedValid old rs =
-    (k : ℕ) → k < length rs → is_some (row_of old (get_or rs k blank_row).reading.id) ≡ true
-    → (get_or rs k blank_row).age ≤ (get_or rs k blank_row).reading.validity
+    (k : ℕ) → k < length rs → is_some (row_of old (slice_index_or rs k blank_row).reading.id) ≡ true
+    → (slice_index_or rs k blank_row).age ≤ (slice_index_or rs k blank_row).reading.validity
 
 -- a crossing from the old books to a list, followed by endless slots of a course, keeps every shared reading
 -- valid for ever: when ages are judged in each slot, at the crossing, and at each slot's end
@@ -39,4 +39,4 @@ in_time (Some r) d finish = nat_le (r.age + finish) d.validity
 -- validity
 pub record MayCross (old : List Row) (new : List Reading) (finishes : List ℕ) : Type 0 where
   pub idle : Idle old
-  pub each : (k : ℕ) → k < length new → in_time (row_of old (get_or new k blank).id) (slice_index_or new k blank) (slice_index finishes k) ≡ true
+  pub each : (k : ℕ) → k < length new → in_time (row_of old (slice_index_or new k blank).id) (slice_index_or new k blank) (slice_index finishes k) ≡ true
