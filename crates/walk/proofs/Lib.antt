@@ -3,3 +3,4 @@ pub mod Crossing
 pub mod Ends
 mod Finishing
 pub mod Looking
+pub mod Walking

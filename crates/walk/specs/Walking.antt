@@ -1,11 +1,10 @@
 -- A policy stepped with its books goes along its course.
-use Rattle.std.specs.Prelude.{◌≡◌, ℕ, zero, suc, ◌+◌, Bool, true, List, None, Option, refl}
-use Rattle.std.proofs.Common.{ap, ◌∙◌, add-one, arith}
+use Rattle.std.specs.Prelude.{◌≡◌, ℕ, zero, suc, ◌+◌, Bool, true, List, refl}
+use Rattle.std.proofs.Common.{ap, ◌∙◌, arith}
 use Rattle.std.proofs.lemmas.Bool.{and_parts}
 use Rattle.policy.specs.Course.{Answer, Course}
 use Rattle.repeat.specs.Marks.{after}
 use Rattle.books.specs.Slots.{books_at, fault, fault_at, slot}
-use Rattle.books.specs.declared.fault.Fault.{Fault}
 use Rattle.books.specs.declared.row.Row.{Row}
 use Rattle.books.proofs.Ages.{stay_equal}
 use Rattle.books.proofs.Sames.{rows_from}
@@ -41,17 +40,3 @@ module _ {Pos : Type 0} (course : Pos → Course) (next : Pos → Pos) (onward :
         let a = fault_is s.0 s.1 n in
         let b = fault_is t.0 t.1 n in
         cc
-
-  -- a step without a fault leads to the next instant
-  pub advanced : (p : Pos) (rs : List Row) (n : ℕ) (s t : Pos × List Row) (r : Option Fault) → s ≡ after (walk_next course next) n (p, rs)
-      → r ≡ walk_fault course s → (r ≡ None → t ≡ walk_next course next s) → fault_at (course p) rs n ≡ None
-      → t ≡ after (walk_next course next) (n + 1) (p, rs)
-  advanced p rs n s t r e met moved calm =
-      let f = fault_is p rs n in
-      let g = ap (walk_fault course) e in
-      let h = moved cc in
-      rw add-one (h ∙ ap (walk_next course next) e)
-
-  -- and there the books are those of the course
-  pub rows_at : (p : Pos) (rs : List Row) (n : ℕ) (t : Pos × List Row) → t ≡ after (walk_next course next) n (p, rs) → t.1 ≡ books_at (course p) rs n
-  rows_at p rs n t e = ap (λ (x : Pos × List Row). x.1) (e ∙ walk_at p rs n)

@@ -5,7 +5,7 @@ use Rattle.books.specs.Slots.{books_at}
 use Rattle.books.proofs.Held.{held}
 use Rattle.books.proofs.RowRuns.{books_length}
 use Rattle.walk.proofs.Finishing.{Noted, noted_all, noted_on}
-use Rattle.walk.specs.Walking.{advanced, rows_at}
+use Rattle.walk.proofs.Walking.{advanced, rows_at}
 use Rattle.walk.proofs.plan.accept.first_finishes.Goals as goal
 
 pub returns-then-note_all : goal.returns-then-note_all
