@@ -19,12 +19,7 @@ fn run(rt: &HostRuntime) -> anyhow::Result<()> {
     for word in env::args(rt)?.skip(1) {
         times = word.parse::<u32>()?;
     }
-    let mut wandered: u32 = 0;
-    for turn in 0..times {
-        if wanders(turn) {
-            wandered += 1;
-        }
-    }
+    let wandered = (0..times).filter(|turn| wanders(*turn)).count();
     println!(rt; "{wandered} of {times} walks ended for want of a repeat")?;
     Ok(())
 }
@@ -40,15 +35,14 @@ fn wanders(turn: u32) -> bool {
 
 // Sixteen readings with validities from 200 on, the last of which depends on the turn.
 fn list_of(turn: u32) -> Result<Readings, Refusal> {
-    let mut rows = [Proposal {
-        id: 0,
+    let rows: [Proposal; 16] = std::array::from_fn(|k| Proposal {
+        id: k as u32 + 1,
         work: 4,
-        validity: 0,
-    }; 16];
-    for k in 0..16usize {
-        rows[k].id = k as u32 + 1;
-        rows[k].validity = 200 + 6 * k as u32;
-    }
-    rows[15].validity = 300 + turn % 50;
+        validity: if k == 15 {
+            300 + turn % 50
+        } else {
+            200 + 6 * k as u32
+        },
+    });
     Readings::new(&rows)
 }

@@ -1,13 +1,13 @@
 -- Books whose rows all come on are fresh.
-use Rattle.std.proofs.Common.{◌≡◌, ℕ, ◌<◌, ◌≤◌, List, map, length, get_or, take, sym, subst, arith}
-use Rattle.std.proofs.lemmas.List.{get_or-map, length-map}
+use Rattle.std.proofs.Common.{◌≡◌, ℕ, ◌<◌, ◌≤◌, List, map, length, get_or, take, sym, ap, ◌∙◌, subst, arith}
+use Rattle.std.proofs.lemmas.List.{get_or-map, length-map, take_all}
 use Rattle.readings.specs.declared.reading.Reading.{Reading}
 use Rattle.readings.specs.Ranges.{WellMade, blank}
 use Rattle.books.specs.declared.row.Row.{Row}
 use Rattle.books.specs.Fresh.{Fresh}
 use Rattle.books.specs.Rows.{blank_row, come_on, job_age}
 use Rattle.books.proofs.Keeps.{fresh_spare}
-use Rattle.books.proofs.Held.{Holds, from_fresh}
+use Rattle.books.specs.Parts.{Spare}
 
 -- a row that comes on
 pub began_row : (rs : List Reading) (k : ℕ) → k < length rs → get_or (map come_on rs) k blank_row ≡ come_on (get_or rs k blank)
@@ -25,8 +25,10 @@ began_fresh rs w =
       jobs = λ k h. let i : k < length rs = omega arith in subst (λ r. job_age r.job ≤ r.age) (sym (began_row rs k i)) (omega arith);
     }
 
--- an array filled with them
-pub began : (rs : List Reading) (rows : List Row) → WellMade rs → length rows ≡ 16 → take (length rs) rows ≡ map come_on rs → Holds (length rs) 0 rows
-began rs rows w l e =
-    let f = subst Fresh (sym e) (began_fresh rs w) in
-    from_fresh (length rs) 0 rows l w.few f (fresh_spare (take (length rs) rows) f)
+-- all of them come on
+pub all_begun : (rs : List Reading) (rows : List Row) → WellMade rs → rows ≡ map come_on (take 16 rs) → rows ≡ map come_on rs
+all_begun rs rows w e = e ∙ ap (map come_on) (take_all 16 rs w.few)
+
+-- and no slot may be needed before one is stale
+pub began_spare : (rs : List Reading) → WellMade rs → Spare (map come_on rs) 0
+began_spare rs w = fresh_spare (map come_on rs) (began_fresh rs w)

@@ -1,6 +1,6 @@
 -- Rows taken by their places.
-use Rattle.std.proofs.Common.{◌≡◌, ℕ, zero, suc, ◌+◌, ◌<◌, ◌≤◌, Bool, cond, List, [], ◌∷◌, ◌++◌, length, get_or, take, drop, set, refl, ap, ◌∙◌, subst, append_assoc, append-nil, arith}
-use Rattle.std.proofs.lemmas.List.{at_drop_all, at_drop_more, drop-set-lt, set-get_or, take_all, take_more_set}
+use Rattle.std.proofs.Common.{◌≡◌, ℕ, zero, suc, ◌+◌, ◌<◌, ◌≤◌, Bool, cond, List, [], ◌∷◌, ◌++◌, length, get_or, take, drop, set, refl, ap, ◌∙◌, append_assoc, append-nil, arith}
+use Rattle.std.proofs.lemmas.List.{at_drop_all, at_drop_more, drop-set-lt, take_all, take_more_set}
 use Rattle.books.specs.declared.row.Row.{Row}
 use Rattle.books.specs.Slots.{each_from, lowest_from}
 
@@ -45,11 +45,6 @@ taken_more f k old rows d y h t e =
     let g : each_from f k (drop k rows) ≡ f k (get_or rows k d) ∷ each_from f (k + 1) (drop (k + 1) rows) = at_drop_more (each_from f k) rows k d h in
     let i = append_assoc (take k rows) (y ∷ []) (each_from f (k + 1) (drop (k + 1) rows)) in
     cc
-
--- a row that stays as it is
-pub taken_same : {X : Type 0} (f : ℕ → X → X) (k : ℕ) (old rows : List X) (d : X) → k < length rows → TakenBelow f k old rows → get_or rows k d ≡ f k (get_or rows k d)
-    → TakenBelow f (k + 1) old rows
-taken_same f k old rows d h t e = subst (TakenBelow f (k + 1) old) (set-get_or rows k d) (taken_more f k old rows d (get_or rows k d) h t e)
 
 pub taken_all : {X : Type 0} (f : ℕ → X → X) (k : ℕ) (old rows : List X) → length rows ≤ k → TakenBelow f k old rows → rows ≡ each_from f 0 old
 taken_all f k old rows h t =

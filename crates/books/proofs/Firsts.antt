@@ -8,6 +8,9 @@ use Rattle.books.specs.Slots.{first_fault, or_else}
 abbrev pub NoneBelow : (ℕ → Option Fault) → ℕ → ℕ → Type 0
 NoneBelow f n k = first_fault f 0 n ≡ first_fault f k (n - k)
 
+pub first_from : (f : ℕ → Option Fault) (n : ℕ) → NoneBelow f n 0
+first_from f n = ap (first_fault f 0) (omega arith)
+
 here : (f : ℕ → Option Fault) (n k : ℕ) → k < n → first_fault f k (n - k) ≡ or_else (f k) (first_fault f (k + 1) (n - (k + 1)))
 unfolding first_fault
 here f n k h = let e : n - k ≡ suc (n - (k + 1)) = omega arith in rw e

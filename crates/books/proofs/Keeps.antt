@@ -8,7 +8,7 @@ use Rattle.books.specs.declared.row.Job.{Job}
 use Rattle.books.specs.declared.row.Row.{Row}
 use Rattle.books.specs.Fresh.{Fresh}
 use Rattle.books.specs.Rows.{blank_row, closed, closed_by, grown, job_age, job_grown, job_ran, opened, ran, stale}
-use Rattle.books.specs.Parts.{Spare, Young, grown_fault}
+use Rattle.books.specs.Parts.{Spare, grown_fault}
 use Rattle.books.specs.Slots.{fault, first_fault, judged, or_else, run_fault, sample_fault, sampled, slot, stale_fault, turned, worked}
 use Rattle.books.proofs.Each.{get_or_each, length_each}
 use Rattle.books.proofs.Firsts.{first_clear, first_none, or_clear}
@@ -83,13 +83,6 @@ judged_fresh a rs e k h =
     let clear : stale_fault a rs k ≡ None = first_clear (stale_fault a rs) 0 (length rs) late k (omega arith) (omega arith) in
     let r : Row = judged a k (get_or rs k blank_row) in
     ltb-false r.reading.validity r.age (clear_flag (stale r) _ clear)
-
-pub fresh_young : (rs : List Row) → Fresh rs → Young rs
-fresh_young rs f k h =
-    let v = f.validities k h in
-    let a = f.ages k h in
-    let j = f.jobs k h in
-    (omega arith, omega arith)
 
 -- a row of the books after a slot
 pub slot_row : (a : Answer) (rs : List Row) (k : ℕ) → k < length rs → get_or (slot a rs) k blank_row ≡ turned a k (get_or rs k blank_row)

@@ -5,7 +5,6 @@ pub mod Each
 pub mod Firsts
 pub mod Held
 pub mod Keeps
-mod Lookups
 mod Named
 pub mod RowRuns
 pub mod Sames

@@ -1,16 +1,14 @@
 -- Rows that compare yes are equal, and the comparison of two books row by row.
-use Rattle.std.proofs.Common.{◌≡◌, ℕ, ◌+◌, ◌<◌, ◌≤◌, Bool, true, false, List, length, get_or, take, Some, None, Decides, Option, sym, refl, ap, ◌∙◌, arith}
-use Rattle.std.proofs.lemmas.List.{get_or-take, length-take-le, take_more_same}
+use Rattle.std.proofs.Common.{◌≡◌, ℕ, Bool, true, false, List, Some, None, Decides, IsTrue, ◌↔◌, Option, sym, refl, ap, ◌∙◌, arith}
 use Rattle.std.proofs.lemmas.Bool.{and_from, and_parts, eq-eqb, eqb-true}
-use Rattle.std.proofs.lemmas.Bool.Decides.{same_from_decides}
-use Rattle.policy.proofs.Sames.{decides_each, each_from_same, each_to_same}
+use Rattle.std.specs.Bool.{beq}
+use Rattle.std.specs.Option.{option_eq}
+use Rattle.std.proofs.lemmas.Slice.Eq.{slice_eq-Decides}
 use Rattle.readings.specs.declared.reading.Reading.{Reading}
-use Rattle.books.specs.declared.books.Books.{Books}
 use Rattle.books.specs.declared.row.Job.{Job}
 use Rattle.books.specs.declared.row.Row.{Row}
 use Rattle.books.specs.Ages.{StayEqual}
-use Rattle.books.specs.Held.{rows_of}
-use Rattle.books.specs.Rows.{blank_row, same_flag, same_job, same_reading, same_row, same_rows}
+use Rattle.books.specs.Rows.{same_job, same_reading, same_row, same_rows}
 use Rattle.books.proofs.Ages.{stay_equal}
 
 reading_from : (a b : Reading) → same_reading a b ≡ true → a ≡ b
@@ -23,7 +21,7 @@ reading_from a b h =
     let same : ◌≡◌ {A = Reading} (record { id = a.id; work = a.work; validity = a.validity }) (record { id = b.id; work = b.work; validity = b.validity }) = cc in
     same
 
-job_from : (a b : Option Job) → same_job a b ≡ true → a ≡ b
+job_from : (a b : Option Job) → option_eq same_job a b ≡ true → a ≡ b
 job_from None None h = refl
 job_from None (Some k) h = cc
 job_from (Some j) None h = cc
@@ -34,7 +32,7 @@ job_from (Some j) (Some k) h =
     let same : ◌≡◌ {A = Job} (record { age = j.age; left = j.left }) (record { age = k.age; left = k.left }) = cc in
     ap (λ (x : Job). Some x) same
 
-flag_from : (a b : Bool) → same_flag a b ≡ true → a ≡ b
+flag_from : (a b : Bool) → beq a b ≡ true → a ≡ b
 flag_from true true h = refl
 flag_from true false h = cc
 flag_from false true h = cc
@@ -55,67 +53,36 @@ row_from a b h =
 reading_to : (a : Reading) → same_reading a a ≡ true
 reading_to a = and_from _ _ (eq-eqb a.id _ refl) (and_from _ _ (eq-eqb a.work _ refl) (eq-eqb a.validity _ refl))
 
-job_to : (o : Option Job) → same_job o o ≡ true
+job_to : (o : Option Job) → option_eq same_job o o ≡ true
 job_to None = refl
 job_to (Some j) = and_from _ _ (eq-eqb j.age _ refl) (eq-eqb j.left _ refl)
 
-flag_to : (b : Bool) → same_flag b b ≡ true
+flag_to : (b : Bool) → beq b b ≡ true
 flag_to true = refl
 flag_to false = refl
 
 row_to : (a : Row) → same_row a a ≡ true
 row_to a = and_from _ _ (eq-eqb a.age _ refl) (and_from _ _ (job_to a.job) (and_from _ _ (flag_to a.shown) (reading_to a.reading)))
 
--- the comparison of rows says yes exactly when they are equal
+-- the comparison of a row says yes exactly when both are equal
+same_row_decides : (a b : Row) → Decides (same_row a b) (a ≡ b)
+same_row_decides a b = (row_from a b, λ e. ap (same_row a) (sym e) ∙ row_to a)
+
+rows_decide : (xs ys : List Row) → Decides (same_rows xs ys) (xs ≡ ys)
+rows_decide xs ys = slice_eq-Decides same_row_decides xs ys (same_rows xs ys) refl
+
+-- so does that of rows
 pub rows_from : (xs ys : List Row) → same_rows xs ys ≡ true → xs ≡ ys
-rows_from = each_from_same same_row row_from row_to
+rows_from xs ys = (rows_decide xs ys).0
 
 pub rows_to : (xs : List Row) → same_rows xs xs ≡ true
-rows_to = each_to_same same_row row_from row_to
+rows_to xs = (rows_decide xs xs).1 refl
 
--- what decides whether rows are equal is that comparison, and equal books stay equal
-pub record Compared (a b : Books) (r : Bool) : Type 0 where
-  pub value : r ≡ same_rows (rows_of a) (rows_of b)
-  pub lasting : r ≡ true → StayEqual (rows_of a) (rows_of b)
-
-pub compared : (a b : Books) (r : Bool) → Decides r (rows_of a ≡ rows_of b) → Compared a b r
-compared a b r d =
-    record {
-      value = same_from_decides r (same_rows (rows_of a) (rows_of b)) d (decides_each same_row row_from row_to (rows_of a) (rows_of b));
-      lasting = λ t. stay_equal (rows_of a) (rows_of b) (d.0 t);
-    }
-
-long : (b : Books) → length (rows_of b) ≡ b.count
-long b = length-take-le b.count b.rows (omega arith)
+-- and where it says yes, equal rows stay equal
+pub compared : (xs ys : List Row) (r : Bool) → r ≡ same_rows xs ys → (IsTrue r ↔ (xs ≡ ys)) × (r ≡ true → StayEqual xs ys)
+compared xs ys r e =
+    let d = rows_decide xs ys in
+    rw e (d, λ t. stay_equal xs ys (d.0 t))
 
 pub refused : {P : Type 0} → (P → ⊥) → Decides false P
 refused no' = (λ e. absurd (let z : ◌≡◌ {A = ℕ} 0 1 = cc in omega arith), λ p. absurd (no' p))
-
--- books of different counts differ
-pub counts_apart : (a b : Books) → (a.count ≡ b.count → ⊥) → Decides false (rows_of a ≡ rows_of b)
-counts_apart a b h = refused (λ e. let l = long a in let r = long b in let m = ap length e in h (omega arith))
-
--- books with a row that differs differ
-pub rows_apart : (k : ℕ) (a b : Books) → k < a.count → a.count ≡ b.count → false ≡ same_row (get_or a.rows k blank_row) (get_or b.rows k blank_row) → Decides false (rows_of a ≡ rows_of b)
-rows_apart k a b h e f =
-    refused (λ same.
-    let x = get_or-take a.count a.rows k blank_row h in
-    let y = get_or-take b.count b.rows k blank_row (omega arith) in
-    let g = ap (λ (rs : List Row). get_or rs k blank_row) same in
-    let i : get_or a.rows k blank_row ≡ get_or b.rows k blank_row = cc in
-    let t = row_to (get_or b.rows k blank_row) in
-    let j = ap (λ (r : Row). same_row r (get_or b.rows k blank_row)) i in
-    let z : ◌≡◌ {A = ℕ} 0 1 = cc in
-    omega arith)
-
-pub same_more : (k : ℕ) (a b : Books) → k < a.count → a.count ≡ b.count → take k a.rows ≡ take k b.rows
-    → true ≡ same_row (get_or a.rows k blank_row) (get_or b.rows k blank_row) → take (k + 1) a.rows ≡ take (k + 1) b.rows
-same_more k a b h e s t =
-    take_more_same a.rows b.rows k blank_row (omega arith) (omega arith) s (row_from (get_or a.rows k blank_row) (get_or b.rows k blank_row) (sym t))
-
--- books whose rows all compare yes are equal
-pub rows_equal : (k : ℕ) (a b : Books) → a.count ≤ k → k ≤ a.count → a.count ≡ b.count → take k a.rows ≡ take k b.rows → Decides true (rows_of a ≡ rows_of b)
-rows_equal k a b h l e s =
-    let f : k ≡ a.count = omega arith in
-    let g : k ≡ b.count = omega arith in
-    (λ _. ap (λ (n : ℕ). take n a.rows) (sym f) ∙ s ∙ ap (λ (n : ℕ). take n b.rows) g, λ _. refl)

@@ -1,7 +1,8 @@
 -- All rows through a slot: the samples and the run first, and then the slot passes, from the last row to the first.
-use Rattle.std.proofs.Common.{◌≡◌, ℕ, ◌+◌, ◌<◌, ◌≤◌, Bool, cond, List, [], ◌∷◌, ◌++◌, length, get_or, take, drop, set, sym, ap, ◌∙◌, inl, inr, append_assoc, append-nil, arith}
-use Rattle.std.proofs.lemmas.List.{at_drop_more, drop_all, get_or_at, get_or-set_other, get_or-set_same, length-set, length-take-le, same_lists, get_or_default, set_at, take_all, take_more}
+use Rattle.std.proofs.Common.{◌≡◌, ℕ, ◌+◌, ◌<◌, ◌≤◌, true, false, refl, cond, unwrap_or, Some, None, Option, List, length, get_or, drop, set, sym, ap, ◌∙◌, inl, inr, arith}
+use Rattle.std.proofs.lemmas.List.{at_drop_all, at_drop_more, get_or-set_other, get_or-set_same, length-set, same_lists, get_or_default}
 use Rattle.std.proofs.lemmas.Bool.{cases_eq, eq-eqb, ne_eqb}
+use Rattle.std.specs.Option.{option_or}
 use Rattle.policy.specs.Course.{Answer}
 use Rattle.books.specs.declared.row.Row.{Row}
 use Rattle.books.specs.Rows.{blank_row, ran}
@@ -10,45 +11,32 @@ use Rattle.books.specs.Slots.{each_from, lowest_from, run, sampled, shown_row, s
 use Rattle.books.proofs.Each.{each_twice, get_or_each, length_each, lowest_each}
 use Rattle.books.proofs.Keeps.{work_keeps}
 
--- the rows from the k-th on have passed, and s is the lowest whose value went on show
-abbrev pub PassedFrom : ℕ → List Row → ℕ → List Row → Type 0
-PassedFrom k old s rows = (s ≡ lowest_from finishes k (drop k old)) × (rows ≡ take k old ++ each_from passed k (drop k old))
+-- s is the lowest row whose value goes on show, if it is among the first k
+abbrev pub ShownBelow : ℕ → List Row → Option ℕ → Type 0
+ShownBelow k old s = lowest_from finishes 0 old ≡ unwrap_or s (lowest_from finishes k (drop k old))
 
-pub passed_none : (old : List Row) → PassedFrom (length old) old 0 old
-passed_none old =
-    let d = drop_all (length old) old (omega arith) in
-    let t = take_all (length old) old (omega arith) in
-    let n = append-nil old in
-    (cc, cc)
+-- one row more: its value goes on show, unless one above it does
+pub shown_here : (k : ℕ) (old : List Row) (s t : Option ℕ) → k < length old → ShownBelow k old s → true ≡ finishes k (get_or old k blank_row)
+    → t ≡ option_or s (Some (k + 1)) → ShownBelow (k + 1) old t
+shown_here k old s t h e f g =
+    let rest : ℕ = lowest_from finishes (k + 1) (drop (k + 1) old) in
+    let lowest : lowest_from finishes k (drop k old) ≡ cond (finishes k (get_or old k blank_row)) (k + 1) rest = at_drop_more (lowest_from finishes k) old k blank_row h in
+    let here : lowest_from finishes k (drop k old) ≡ k + 1 = cc in
+    e ∙ ap (unwrap_or s) here ∙ (elim s as (λ (o : Option ℕ). unwrap_or o (k + 1) ≡ unwrap_or (option_or o (Some (k + 1))) rest) [ Some n ↦ refl | None ↦ refl ]) ∙ ap (λ (o : Option ℕ). unwrap_or o rest) (sym g)
 
--- the row below the k-th, which has not passed yet
-pub still : (k j : ℕ) (old : List Row) (s : ℕ) (rows : List Row) → k ≡ j + 1 → k ≤ length old → PassedFrom k old s rows → get_or rows j blank_row ≡ get_or old j blank_row
-still k j old s rows e h t =
-    let x : Row = get_or old j blank_row in
-    let l : j < length old = omega arith in
-    let rest : List Row = each_from passed k (drop k old) in
-    let n = length-take-le j old (omega arith) in
-    let m = take_more old j blank_row l in
-    let b = append_assoc (take j old) (x ∷ []) rest in
-    let at = get_or_at (take j old) x rest blank_row j n in
-    cc
+-- or it does not
+pub shown_not : (k : ℕ) (old : List Row) (s : Option ℕ) → k < length old → ShownBelow k old s → false ≡ finishes k (get_or old k blank_row) → ShownBelow (k + 1) old s
+shown_not k old s h e f =
+    let rest : ℕ = lowest_from finishes (k + 1) (drop (k + 1) old) in
+    let lowest : lowest_from finishes k (drop k old) ≡ cond (finishes k (get_or old k blank_row)) (k + 1) rest = at_drop_more (lowest_from finishes k) old k blank_row h in
+    let later : lowest_from finishes k (drop k old) ≡ rest = cc in
+    e ∙ ap (unwrap_or s) later
 
--- a row more, in front of the others: b tells whether its value went on show, and r is what it became
-pub passed_more : (k j : ℕ) (old : List Row) (s : ℕ) (rows : List Row) → k ≡ j + 1 → k ≤ length old → PassedFrom k old s rows
-    → (b : Bool) (r : Row) → b ≡ finishes j (get_or rows j blank_row) → r ≡ passed j (get_or rows j blank_row)
-    → PassedFrom j old (cond b (j + 1) s) (set rows j r)
-passed_more k j old s rows e h t b r f g =
-    let x : Row = get_or old j blank_row in
-    let l : j < length old = omega arith in
-    let rest : List Row = each_from passed k (drop k old) in
-    let n = length-take-le j old (omega arith) in
-    let m = take_more old j blank_row l in
-    let p = append_assoc (take j old) (x ∷ []) rest in
-    let put = set_at (take j old) x rest r j n in
-    let was : get_or rows j blank_row ≡ x = still k j old s rows e h t in
-    let next : each_from passed j (drop j old) ≡ passed j x ∷ each_from passed (j + 1) (drop (j + 1) old) = at_drop_more (each_from passed j) old j blank_row l in
-    let lowest : lowest_from finishes j (drop j old) ≡ cond (finishes j x) (j + 1) (lowest_from finishes (j + 1) (drop (j + 1) old)) = at_drop_more (lowest_from finishes j) old j blank_row l in
-    (cc, cc)
+-- and at the end
+pub shown_all : (k : ℕ) (old : List Row) (s : Option ℕ) → length old ≤ k → ShownBelow k old s → unwrap_or s 0 ≡ lowest_from finishes 0 old
+shown_all k old s h e =
+    let none : lowest_from finishes k (drop k old) ≡ 0 = at_drop_all (lowest_from finishes k) old k h in
+    ap (unwrap_or s) (sym none) ∙ sym e
 
 -- to run no row changes none
 pub run_none : (a : Answer) (rs : List Row) → ((k : ℕ) → k < length rs → a.1 ≡ k + 1 → ⊥) → rs ≡ each_from (run a) 0 rs

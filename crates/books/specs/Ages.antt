@@ -1,5 +1,5 @@
 -- What the age of a row means, told by the answers of a course alone.
-use Rattle.std.specs.Prelude.{◌≡◌, ℕ, zero, suc, ◌+◌, ◌<◌, ◌≤◌, true, cond, ◌&&◌, List, length, None, MatchBool, ◌==◌, nat_le, slice_index_or}
+use Rattle.std.specs.Prelude.{◌≡◌, ℕ, zero, suc, ◌+◌, ◌<◌, ◌≤◌, true, if◌then◌else◌, ◌&&◌, List, length, None, MatchBool, ◌==◌, nat_le, slice_index_or}
 use Rattle.policy.specs.Course.{Course, names}
 use Rattle.books.specs.declared.row.Row.{Row}
 use Rattle.books.specs.Rows.{blank_row}
@@ -12,7 +12,7 @@ Samples c k s = names (c s).0 k ≡ true
 -- how many slots run row k + 1, from slot s to the one that ends at instant t
 abbrev pub runs : Course → ℕ → ℕ → ℕ → ℕ
 runs c k s zero = 0
-runs c k s (suc t) = runs c k s t + cond (nat_le s t && (c t).1 == k + 1) 1 0
+runs c k s (suc t) = runs c k s t + (if nat_le s t && (c t).1 == k + 1 then 1 else 0)
 
 -- at instant n no sample of row k + 1 taken from slot s on has had its w slots of work
 abbrev pub Unfinished : Course → ℕ → ℕ → ℕ → ℕ → Type 0

@@ -1,12 +1,11 @@
 -- What can be asked of the rows of books.
-use Rattle.std.specs.Prelude.{◌≡◌, ℕ, ◌<◌, cond, List, [], ◌∷◌, length, Some, None, Option, ◌==◌, slice_index_or}
+use Rattle.std.specs.Prelude.{◌≡◌, ℕ, ◌<◌, List, length, None, Option, ◌==◌, find, slice_index_or}
 use Rattle.books.specs.declared.row.Row.{Row}
 use Rattle.books.specs.Rows.{blank_row}
 
--- the row with an id, if there is one
+-- the first row with an id, if there is one
 abbrev pub row_of : List Row → ℕ → Option Row
-row_of [] id = None
-row_of (r ∷ rs) id = cond (r.reading.id == id) (Some r) (row_of rs id)
+row_of rs id = find (λ r. r.reading.id == id) rs
 
 -- no job is open
 abbrev pub Idle : List Row → Type 0

@@ -1,6 +1,8 @@
 -- What the books keep of a row, and what each step of a slot does to it.
-use Rattle.std.specs.Prelude.{ℕ, ◌+◌, ◌-◌, Bool, true, false, cond, not, ◌&&◌, List, Some, None, Option, ◌==◌, nat_lt}
-use Rattle.policy.specs.Sames.{same_each}
+use Rattle.std.specs.Prelude.{ℕ, ◌+◌, ◌-◌, Bool, true, false, if◌then◌else◌, not, ◌&&◌, List, Some, None, Option, ◌==◌, nat_lt}
+use Rattle.std.specs.Bool.{beq}
+use Rattle.std.specs.Cmp.Lexicographic.{pointwise}
+use Rattle.std.specs.Option.{option_eq}
 use Rattle.readings.specs.declared.reading.Reading.{Reading}
 use Rattle.readings.specs.Ranges.{blank}
 use Rattle.books.specs.declared.fault.Fault.{Fault}
@@ -40,7 +42,7 @@ grown r = record { reading = r.reading; shown = r.shown; age = r.age + 1; job = 
 
 abbrev pub closed_by : Row → Option Job → Row
 closed_by r None = r
-closed_by r (Some j) = cond (j.left == 0) (record { reading = r.reading; shown = true; age = j.age; job = None }) r
+closed_by r (Some j) = if j.left == 0 then record { reading = r.reading; shown = true; age = j.age; job = None } else r
 
 -- a job without work left closes: its value goes on show, and its age becomes the row's
 abbrev pub closed : Row → Row
@@ -72,27 +74,20 @@ stale r = nat_lt r.reading.validity r.age
 
 -- what is wrong with a row, number n, in a step of a slot
 abbrev pub row_fault : Step → Row → ℕ → Option Fault
-row_fault Sample r n = cond (is_open r.job) (Some (JobRule n)) None
-row_fault Run r n = cond (has_work r.job) None (Some (JobRule n))
-row_fault Judge r n = cond (stale r) (Some (Stale n)) None
+row_fault Sample r n = if is_open r.job then Some (JobRule n) else None
+row_fault Run r n = if has_work r.job then None else Some (JobRule n)
+row_fault Judge r n = if stale r then Some (Stale n) else None
 
-abbrev pub same_job : Option Job → Option Job → Bool
-same_job None None = true
-same_job None (Some k) = false
-same_job (Some j) None = false
-same_job (Some j) (Some k) = j.age == k.age && j.left == k.left
+abbrev pub same_job : Job → Job → Bool
+same_job j k = j.age == k.age && j.left == k.left
 
 abbrev pub same_reading : Reading → Reading → Bool
 same_reading a b = a.id == b.id && (a.work == b.work && a.validity == b.validity)
 
-abbrev pub same_flag : Bool → Bool → Bool
-same_flag true b = b
-same_flag false b = not b
-
 -- all that is kept of two rows is equal
 abbrev pub same_row : Row → Row → Bool
-same_row a b = a.age == b.age && (same_job a.job b.job && (same_flag a.shown b.shown && same_reading a.reading b.reading))
+same_row a b = a.age == b.age && (option_eq same_job a.job b.job && (beq a.shown b.shown && same_reading a.reading b.reading))
 
 -- there are as many rows, and all that is kept of each is equal
 abbrev pub same_rows : List Row → List Row → Bool
-same_rows = same_each same_row
+same_rows = pointwise same_row

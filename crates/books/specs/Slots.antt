@@ -1,5 +1,5 @@
 -- A slot: an answer taken through its five steps, and the first fault on the way.
-use Rattle.std.specs.Prelude.{ℕ, zero, suc, ◌+◌, ◌-◌, Bool, cond, List, [], ◌∷◌, length, Some, None, Option, ◌==◌, nat_le, nat_lt, slice_index_or}
+use Rattle.std.specs.Prelude.{ℕ, zero, suc, ◌+◌, ◌-◌, Bool, if◌then◌else◌, not, List, [], ◌∷◌, length, Some, None, Option, ◌==◌, nat_le, nat_lt, slice_index_or}
 use Rattle.policy.specs.Course.{Answer, Course, names}
 use Rattle.books.specs.declared.fault.Fault.{Fault}
 use Rattle.books.specs.declared.fault.Fault.TheVariants.{JobRule}
@@ -9,11 +9,11 @@ use Rattle.books.specs.Rows.{blank_row, closed, finished, grown, opened, ran, ro
 
 -- step 1: row k + 1 is sampled if the answer names it
 abbrev pub sampled : Answer → ℕ → Row → Row
-sampled a k r = cond (names a.0 k) (opened r) r
+sampled a k r = if names a.0 k then opened r else r
 
 -- step 2: it is run if it is the row to run
 abbrev pub run : Answer → ℕ → Row → Row
-run a k r = cond (a.1 == k + 1) (ran r) r
+run a k r = if a.1 == k + 1 then ran r else r
 
 -- row k + 1 after steps 1 and 2
 abbrev pub worked : Answer → ℕ → Row → Row
@@ -43,7 +43,7 @@ slot a rs = each_from (turned a) 0 rs
 -- the lowest row, from row k + 1 on, that passes a test, or 0
 abbrev pub lowest_from : (ℕ → Row → Bool) → ℕ → List Row → ℕ
 lowest_from p k [] = 0
-lowest_from p k (r ∷ rs) = cond (p k r) (k + 1) (lowest_from p (k + 1) rs)
+lowest_from p k (r ∷ rs) = if p k r then k + 1 else lowest_from p (k + 1) rs
 
 -- the row whose value goes on show in a slot, or 0
 abbrev pub shown_row : Answer → List Row → ℕ
@@ -61,13 +61,16 @@ first_fault f k (suc n) = or_else (f k) (first_fault f (k + 1) n)
 -- step 1: to sample a row with an open job, or a row that the list lacks
 abbrev pub sample_fault : Answer → List Row → ℕ → Option Fault
 sample_fault a rs k =
-    cond (names a.0 k) (cond (nat_lt k (length rs)) (row_fault Sample (slice_index_or rs k blank_row) (k + 1)) (Some (JobRule (k + 1)))) None
+    if not (names a.0 k) then None
+    else if nat_lt k (length rs) then row_fault Sample (slice_index_or rs k blank_row) (k + 1)
+    else Some (JobRule (k + 1))
 
 -- step 2: to run a row without a job, or a row that the list lacks; 0 runs none
 abbrev pub run_fault : Answer → List Row → Option Fault
 run_fault a rs =
-    cond (a.1 == 0) None
-    (cond (nat_le a.1 (length rs)) (row_fault Run (sampled a (a.1 - 1) (slice_index_or rs (a.1 - 1) blank_row)) a.1) (Some (JobRule a.1)))
+    if a.1 == 0 then None
+    else if nat_le a.1 (length rs) then row_fault Run (sampled a (a.1 - 1) (slice_index_or rs (a.1 - 1) blank_row)) a.1
+    else Some (JobRule a.1)
 
 -- step 4: an age that exceeds the validity
 abbrev pub stale_fault : Answer → List Row → ℕ → Option Fault

@@ -1,7 +1,9 @@
-ghost use Rattle.std.specs.Prelude.{◌≡◌, ℕ, ◌+◌, ◌<◌, ◌≤◌, length, slice_index_or};
-ghost use Rattle.books.specs.Rows.{blank_row, job_age};
+ghost use Rattle.books.specs.Fresh.{Fresh};
+ghost use Rattle.books.specs.Parts.{Spare};
+ghost use Rattle.rows.specs.Held.{rows_of};
 
 use crate::row::Row;
+use rows::rows::Rows;
 
 mod lookup;
 mod slot;
@@ -11,13 +13,8 @@ mod slot;
 // can be stale, so that ages are compared with validities only when it is used up.
 #[derive(Clone, Copy)]
 pub struct Books {
-    rows: [Row; 16],
-    count: usize,
+    rows: Rows<Row>,
     margin: u16,
-    ghost long: { length rows ≡ 16 },
-    ghost few: { count ≤ 16 },
-    ghost validities: { (k : ℕ) → k < count → (slice_index_or rows k blank_row).reading.validity ≤ 4095 },
-    ghost fresh: { (k : ℕ) → k < count → (slice_index_or rows k blank_row).age ≤ (slice_index_or rows k blank_row).reading.validity },
-    ghost spare: { (k : ℕ) → k < count → (slice_index_or rows k blank_row).age + margin ≤ (slice_index_or rows k blank_row).reading.validity },
-    ghost jobs: { (k : ℕ) → k < count → job_age (slice_index_or rows k blank_row).job ≤ (slice_index_or rows k blank_row).age },
+    ghost fresh: { Fresh (rows_of rows) },
+    ghost spare: { Spare (rows_of rows) margin },
 }

@@ -1,5 +1,6 @@
 ghost use Rattle.std.specs.Prelude.{◌≡◌, ◌<◌, ◌==◌};
-ghost use Rattle.books.specs.Rows.{closed, come_on, finished, grown, job_age, opened, ran, row_fault, same_job, same_reading, same_row};
+ghost use Rattle.books.specs.Rows.{closed, come_on, finished, grown, job_age, opened, ran, row_fault};
+ghost use Rattle.std.specs.Result.{result_err};
 ghost use Rattle.books.specs.declared.fault.Step.TheVariants.{Judge};
 
 use crate::fault::{Fault, Step};
@@ -17,10 +18,12 @@ pub struct Job {
 // The age counts the slots since the sample of the value on show or, with none, since the row came on.
 #[derive(Clone, Copy, PartialEq, Eq, Debug)]
 pub struct Row {
-    pub reading: Reading,
-    pub shown: bool,
+    // the first field, since two rows are told apart by their ages most often
     pub age: u16,
     pub job: Option<Job>,
+    // no `Option` of an age: the age counts without a value too
+    pub shown: bool,
+    pub reading: Reading,
 }
 
 impl Row {
@@ -29,35 +32,36 @@ impl Row {
         ensures { result ≡ come_on reading.now }
     {
         Row {
-            reading: *reading,
-            shown: false,
             age: 0,
             job: None,
+            shown: false,
+            reading: *reading,
         }
     }
 
-    // What is wrong with the row, number `row`, in a step of a slot.
-    pub(crate) fn fault(&self, step: Step, row: u8) -> Option<Fault>
-        ensures { result ≡ row_fault step self.now row }
+    // Refuses the row, number `row`, for what is wrong with it in a step of a slot. One match with guards decides it
+    // for the three steps, the form that was asked for.
+    pub(crate) fn check(&self, step: Step, row: u8) -> Result<(), Fault>
+        ensures { result_err result ≡ row_fault step self.now row }
     {
         match (step, self.job) {
-            (Step::Sample, Some(_)) => Some(Fault::JobRule { row }),
-            (Step::Run, None) => Some(Fault::JobRule { row }),
-            (Step::Run, Some(job)) if job.left == 0 => Some(Fault::JobRule { row }),
-            (Step::Judge, _) if self.age > self.reading.validity => Some(Fault::Stale { row }),
-            _ => None,
+            (Step::Sample, Some(_)) => Err(Fault::JobRule { row }),
+            (Step::Run, None) => Err(Fault::JobRule { row }),
+            (Step::Run, Some(job)) if job.left == 0 => Err(Fault::JobRule { row }),
+            (Step::Judge, _) if self.age > self.reading.validity => Err(Fault::Stale { row }),
+            _ => Ok(()),
         }
     }
 
-    // What is wrong with the row once a slot more has passed.
-    pub(crate) fn stale_next(&self, row: u8) -> Option<Fault>
+    // Refuses the row if it is stale once a slot more has passed.
+    pub(crate) fn check_next(&self, row: u8) -> Result<(), Fault>
         requires age { self.now.age < 65535 }
         requires job { job_age self.now.job < 65535 }
-        ensures { result ≡ row_fault Judge (grown self.now) row }
+        ensures { result_err result ≡ row_fault Judge (grown self.now) row }
     {
         let mut later = *self;
         later.grow();
-        later.fault(Step::Judge, row)
+        later.check(Step::Judge, row)
     }
 
     // Whether the row is that of an id.
@@ -120,41 +124,4 @@ impl Row {
             _ => false,
         }
     }
-
-    // Lets a slot pass, closes a job without work left, and says whether there was one.
-    pub(crate) fn pass(&mut self) -> bool
-        requires age { self.old.age < 65535 }
-        requires job { job_age self.old.job < 65535 }
-        ensures told { result ≡ finished (grown self.old).job }
-        ensures done { self.new ≡ closed (grown self.old) }
-    {
-        self.grow();
-        self.close()
-    }
-
-    // Whether all that is kept of both rows is equal; the ages first, since they differ most.
-    pub(crate) fn same(&self, other: &Row) -> bool
-        ensures { result ≡ same_row self.now other.now }
-    {
-        self.age == other.age
-            && same_job(self.job, other.job)
-            && self.shown == other.shown
-            && same_reading(&self.reading, &other.reading)
-    }
-}
-
-fn same_job(one: Option<Job>, other: Option<Job>) -> bool
-    ensures { result ≡ same_job one other }
-{
-    match (one, other) {
-        (None, None) => true,
-        (Some(a), Some(b)) => a.age == b.age && a.left == b.left,
-        _ => false,
-    }
-}
-
-fn same_reading(one: &Reading, other: &Reading) -> bool
-    ensures { result ≡ same_reading one.now other.now }
-{
-    one.id == other.id && one.work == other.work && one.validity == other.validity
 }

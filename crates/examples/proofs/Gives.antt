@@ -1,6 +1,7 @@
 -- What the rules give for the examples that are not walks.
-use Rattle.std.proofs.Common.{◌≡◌, ℕ, zero, suc, ◌<◌, true, false, List, [], ◌∷◌, length, get_or, refl, subst, inl, inr, arith, lit<}
-use Rattle.std.proofs.lemmas.Bool.{both_ways, cases_lt}
+use Rattle.std.proofs.Common.{◌≡◌, ℕ, zero, suc, ◌<◌, true, false, List, [], ◌∷◌, length, get_or, refl, add-one, lit<}
+use Rattle.std.proofs.lemmas.Bool.{both_ways}
+use borrow.Author.Count.{below_more, below_none}
 use Rattle.policy.specs.Course.{Course}
 use Rattle.periodic.specs.Rows.{periodic_course}
 use Rattle.books.specs.Slots.{books_at, first_fault}
@@ -21,12 +22,8 @@ Each P zero = Unit {0}
 Each P (suc n) = Each P n × P n
 
 each_below : (P : ℕ → Type 0) (n : ℕ) → Each P n → (k : ℕ) → k < n → P k
-each_below P zero e k l = absurd (omega arith)
-each_below P (suc n) (e, h) k l =
-    elim (cases_lt k n) [
-      | inl less ↦ each_below P n e k less
-      | inr more ↦ let same : n ≡ k = omega arith in subst P same h
-    ]
+each_below P zero e k l = below_none P k l
+each_below P (suc n) (e, h) k l = below_more P n (each_below P n e) h k (rw add-one l)
 
 pub first_x : FirstFinish course_x (new_books readings_x) 0 1
 first_x = record { here = refl; not_before = each_below _ 1 (tt, refl) }

@@ -1,6 +1,5 @@
 -- What the parts of a run of an example come to.
-use Rattle.std.proofs.Common.{◌≡◌, ℕ, ◌+◌, ◌<◌, Bool, List, length, get_or, take, Ok, Err, Decides, Result, sym, ap, ◌∙◌, subst, add-one, arith}
-use Rattle.std.proofs.lemmas.List.{get_or-take, length-map}
+use Rattle.std.proofs.Common.{◌≡◌, ℕ, ◌+◌, ◌↔◌, Bool, IsTrue, List, get_or, Ok, Err, Result, sym, ap, ◌∙◌, subst, add-one, arith}
 use Rattle.readings.specs.Refusals.{Told, told}
 use Rattle.readings.specs.declared.reading.Reading.{Reading}
 use Rattle.readings.specs.declared.refusal.Refusal.{Refusal}
@@ -10,29 +9,19 @@ use Rattle.planner.specs.declared.timing.Timing.{Timing}
 use Rattle.periodic.specs.Rows.{periodic_course}
 use Rattle.periodic.specs.declared.row.Row as keeps
 use Rattle.books.specs.Held.{rows_of}
-use Rattle.books.specs.Rows.{come_on}
 use Rattle.books.specs.Slots.{books_at, slot}
 use Rattle.books.specs.declared.books.Books.{Books}
 use Rattle.books.specs.declared.row.Row.{Row}
 use Rattle.walk.specs.Crossings.{MayCross}
-use Rattle.walk.specs.Finishes.{FirstFinish}
 use Rattle.walk.specs.Plans.{Accepts}
 use Rattle.walk.specs.Walks.{Outcome, Walks, granted, refused}
-use Rattle.examples.specs.Given.{RulesGive, XToY, new_books, periodic, readings_x, readings_y, start}
-use Rattle.examples.specs.Runs.{Faulty, FinishAnswer, SlotAnswer, Stands, comes_to}
-use Rattle.examples.specs.declared.asked.Asked.TheVariants.{AgeTwelveOfY, FinishesOfX}
+use Rattle.examples.specs.Given.{FinishEnds, MoreLessGives, RulesGive, XToY, new_books, periodic, readings_x, readings_y, start}
+use Rattle.examples.specs.Runs.{Faulty, SlotAnswer, Stands}
+use Rattle.examples.specs.declared.asked.Asked.TheVariants.{AgeTwelveOfY}
 use Rattle.examples.specs.declared.ending.Ending.{Ending}
-use Rattle.examples.specs.declared.ending.Ending.TheVariants.{Says}
+use Rattle.examples.specs.declared.ending.Ending.TheVariants.{Finishes, Says}
 use Rattle.examples.proofs.Gives.{age_twelve}
-use Rattle.examples.proofs.Walked.{calm_x, calm_y, given_x, given_y, timings_x, timings_y, walks_x, walks_y}
-
--- the first finish of each of three rows, as a plan tells them
-pub finish_told : (c : Course) (ds es : List Reading) (fs all : List ℕ) → es ≡ ds → length ds ≡ 3 → fs ≡ take (length es) all → Accepts c (new_books ds) all
-    → (k : ℕ) → k < 3 → FirstFinish c (new_books ds) k (get_or fs k 0)
-finish_told c ds es fs all same many is accepts k l =
-    let part : fs ≡ take 3 all = is ∙ ap (λ (n : ℕ). take n all) (ap length same ∙ many) in
-    let e : get_or fs k 0 ≡ get_or all k 0 = ap (λ (gs : List ℕ). get_or gs k 0) part ∙ get_or-take 3 all k 0 l in
-    subst (FirstFinish c (new_books ds) k) (sym e) (accepts.finish k (omega (arith, length-map ds come_on)))
+use Rattle.examples.proofs.Walked.{calm_x, calm_y, given_x, given_y, known, timings_x, timings_y, walks_x, walks_y}
 
 -- one slot more
 pub stood : (c : Course) (ds : List Reading) (n : ℕ) (old new : Books) (d e : Course) (a : Answer) → Stands c ds n old d → a ≡ d 0
@@ -46,16 +35,12 @@ stood c ds n old new d e a s is taken on =
 
 -- a policy stands at the start of the timings that More-Less gives
 abbrev pub Begins : List Reading → List keeps.Row → Type 0
-Begins ds p = (ts : List Timing) × ((more_less ds ≡ Ok ts) × (p ≡ start ts))
+Begins ds p = MoreLessGives ds (λ ts. p ≡ start ts)
 
 module _ (rs : List Reading) (us : List Timing) (gives : more_less rs ≡ Ok us) (ds : List Reading) (p : List keeps.Row) (e : ds ≡ rs) (b : Begins ds p) where
   -- which timings these are is known
   begins_at : p ≡ start us
-  begins_at =
-      let same : more_less ds ≡ more_less rs = ap more_less e in
-      let given = b.1.0 in
-      let known : b.0 ≡ us = cc in
-      b.1.1 ∙ ap start known
+  begins_at = known rs us gives (λ ts. p ≡ start ts) (subst (λ (d : List Reading). Begins d p) e b)
 
   settled : (P : List Reading → List keeps.Row → Type 0) → P ds p → P rs (start us)
   settled P t = subst (P rs) begins_at (subst (λ (d : List Reading). P d p) e t)
@@ -74,24 +59,27 @@ apart m n t e = let z : ◌≡◌ {A = ℕ} 0 1 = cc in omega arith
 abbrev Refuses : Told → List Reading → List keeps.Row → Type 0
 Refuses t ds p = (x : Outcome) → Walks periodic p (new_books ds) x → x ≡ refused t
 
-no_refusal_x : (ds : List Reading) (p : List keeps.Row) (t : Told) → ds ≡ readings_x → Begins ds p → Refuses t ds p → ⊥
+pub no_refusal_x : (ds : List Reading) (p : List keeps.Row) (t : Told) → ds ≡ readings_x → Begins ds p → Refuses t ds p → ⊥
 no_refusal_x ds p t e b f = apart 31 28 t (settled readings_x timings_x given_x ds p e b (Refuses t) f (granted 31 28) walks_x)
 
 pub no_refusal_y : (ds : List Reading) (p : List keeps.Row) (t : Told) → ds ≡ readings_y → Begins ds p → Refuses t ds p → ⊥
 no_refusal_y ds p t e b f = apart 7 6 t (settled readings_y timings_y given_y ds p e b (Refuses t) f (granted 7 6) walks_y)
 
-pub finishes_told : (ds : List Reading) (p : List keeps.Row) → ds ≡ readings_x → Begins ds p → (r : Result Ending Refusal) → FinishAnswer periodic p ds r → RulesGive FinishesOfX (comes_to r)
-finishes_told ds p e b (Ok a) f = (timings_x, (given_x, settled readings_x timings_x given_x ds p e b (λ d q. FinishAnswer periodic q d (Ok a)) f))
-finishes_told ds p e b (Err r) f = absurd (no_refusal_x ds p (told r) e b f)
+pub finishes_told : (xs : List Reading) (p : List keeps.Row) (fs all : List ℕ) → xs ≡ readings_x → Begins xs p → fs ≡ all → Accepts (periodic_course p) (new_books xs) all
+    → MoreLessGives readings_x (λ ts. FinishEnds (periodic_course (start ts)) readings_x (Ok (Finishes (get_or fs 0 0) (get_or fs 1 0) (get_or fs 2 0))))
+finishes_told xs p fs all e b told accepts =
+    let a = settled readings_x timings_x given_x xs p e b (λ ds q. Accepts (periodic_course q) (new_books ds) fs) (subst (Accepts (periodic_course p) (new_books xs)) (sym told) accepts) in
+    (timings_x, (given_x, (a.finish 0 (omega arith), a.finish 1 (omega arith), a.finish 2 (omega arith))))
 
-pub slot_told : (ds : List Reading) (p : List keeps.Row) → ds ≡ readings_y → Begins ds p → (r : Result Ending Refusal) → SlotAnswer (periodic_course p) ds 11 r → RulesGive AgeTwelveOfY (comes_to r)
+pub slot_told : (ds : List Reading) (p : List keeps.Row) → ds ≡ readings_y → Begins ds p → (r : Result Ending Refusal) → SlotAnswer (periodic_course p) ds 11 r → RulesGive AgeTwelveOfY r
+unfolding RulesGive
 slot_told ds p e b (Ok a) f =
     let t = settled readings_y timings_y given_y ds p e b (λ d q. SlotAnswer (periodic_course q) d 11 (Ok a)) f in
-    subst (RulesGive AgeTwelveOfY) (sym t.0) (timings_y, (given_y, age_twelve))
+    subst (λ (x : Ending). RulesGive AgeTwelveOfY (Ok x)) (sym t.0) (timings_y, (given_y, age_twelve))
 slot_told ds p e b (Err r) f = absurd (no_fault_y ds p e b f)
 
 pub crossing_told : (xs ys zs : List Reading) (p q : List keeps.Row) (n : ℕ) (rs : List Row) (fs : List ℕ) (said : Bool) → xs ≡ readings_x → Begins xs p → ys ≡ readings_y → Begins ys q
-    → rs ≡ books_at (periodic_course p) (new_books xs) n → zs ≡ ys → Accepts (periodic_course q) (new_books ys) fs → Decides said (MayCross rs zs fs) → XToY n (Says said)
+    → rs ≡ books_at (periodic_course p) (new_books xs) n → zs ≡ ys → Accepts (periodic_course q) (new_books ys) fs → (IsTrue said ↔ MayCross rs zs fs) → XToY n (Ok (Says said))
 crossing_told xs ys zs p q n rs fs said e b f d old same accepts says =
     let k : rs ≡ books_at (periodic_course (start timings_x)) (new_books readings_x) n = settled readings_x timings_x given_x xs p e b (λ ds o. rs ≡ books_at (periodic_course o) (new_books ds) n) old in
     let a = settled readings_y timings_y given_y ys q f d (λ ds o. Accepts (periodic_course o) (new_books ds) fs) accepts in (
@@ -105,7 +93,7 @@ crossing_told xs ys zs p q n rs fs said e b f d old same accepts says =
             record {
               finishes = fs;
               first = a.finish;
-              says = subst (λ (os : List Row). Decides said (MayCross os readings_y fs)) k (subst (λ (ds : List Reading). Decides said (MayCross rs ds fs)) (same ∙ f) says);
+              says = subst (λ (os : List Row). IsTrue said ↔ MayCross os readings_y fs) k (subst (λ (ds : List Reading). IsTrue said ↔ MayCross rs ds fs) (same ∙ f) says);
             },
           ),
         ),

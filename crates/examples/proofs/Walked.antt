@@ -1,6 +1,7 @@
 -- The walks of the examples, computed.
-use Rattle.std.proofs.Common.{◌≡◌, ℕ, ◌+◌, List, [], ◌∷◌, None, Ok, refl}
+use Rattle.std.proofs.Common.{◌≡◌, ℕ, ◌+◌, List, [], ◌∷◌, None, Ok, refl, subst}
 use Rattle.policy.proofs.Stepping.{ahead_onward}
+use Rattle.readings.specs.declared.reading.Reading.{Reading}
 use Rattle.planner.specs.Periods.{half_half, more_less}
 use Rattle.planner.specs.declared.timing.Timing.{Timing}
 use Rattle.periodic.specs.Rows.{periodic_answer, periodic_course, periodic_next}
@@ -8,7 +9,7 @@ use Rattle.periodic.specs.declared.row.Row.{Row}
 use Rattle.books.specs.Slots.{fault_at}
 use Rattle.walk.specs.Walks.{Walks, granted, refused}
 use Rattle.walk.proofs.Looking.{doubted, granted_calm, walk_computes, walk_within, walks_computed}
-use Rattle.examples.specs.Given.{asleep, doubting, new_books, periodic, readings_x, readings_y, start}
+use Rattle.examples.specs.Given.{MoreLessGives, asleep, doubting, new_books, periodic, readings_x, readings_y, start}
 
 abbrev timing : ℕ → ℕ → Timing
 timing work period = record { work = work; period = period }
@@ -26,6 +27,10 @@ given_x = refl
 
 pub given_y : more_less readings_y ≡ Ok timings_y
 given_y = refl
+
+-- the timings that More-Less gives are known
+pub known : (ds : List Reading) (us : List Timing) → more_less ds ≡ Ok us → (P : List Timing → Type 0) → MoreLessGives ds P → P us
+known ds us gives P g = let given = g.1.0 in let same : g.0 ≡ us = cc in subst P same g.1.1
 
 pub onward : (p : List Row) (n : ℕ) → periodic_course (periodic_next p) n ≡ periodic_course p (n + 1)
 onward p n = ahead_onward periodic_next periodic_answer p n

@@ -1,8 +1,9 @@
 -- What the rules give for each example.
-use Rattle.std.specs.Prelude.{◌≡◌, ℕ, ◌<◌, Bool, true, false, List, [], ◌∷◌, map, length, slice_index_or, None, Ok, Decides, slice_index}
+use Rattle.std.specs.Prelude.{◌≡◌, ℕ, ◌<◌, ◌↔◌, Bool, true, false, IsTrue, List, [], ◌∷◌, map, length, slice_index, slice_index_or, None, Ok, Err, Result}
 use Rattle.readings.specs.Ranges.{blank}
 use Rattle.readings.specs.Refusals.{told}
 use Rattle.readings.specs.declared.reading.Reading.{Reading}
+use Rattle.readings.specs.declared.refusal.Refusal.{Refusal}
 use Rattle.policy.specs.Course.{Course}
 use Rattle.planner.specs.Periods.{half_half, more_less}
 use Rattle.planner.specs.declared.timing.Timing.{Timing}
@@ -17,7 +18,7 @@ use Rattle.walk.specs.Walks.{Kind, Walks, granted, refused}
 use Rattle.examples.specs.declared.asked.Asked.{Asked}
 use Rattle.examples.specs.declared.asked.Asked.TheVariants.{HalfHalfOfX, MoreLessOfX, FinishesOfX, MoreLessOfY, AgeTwelveOfY, AsleepOverX, DoubtingOverX, CrossingAtOne, CrossingAtSix, CrossingAtSeven}
 use Rattle.examples.specs.declared.ending.Ending.{Ending}
-use Rattle.examples.specs.declared.ending.Ending.TheVariants.{Granted, Finishes, Shown, Says, Refused}
+use Rattle.examples.specs.declared.ending.Ending.TheVariants.{Granted, Finishes, Shown, Says}
 
 abbrev pub reading : ℕ → ℕ → ℕ → Reading
 reading id work validity = record { id = id; work = work; validity = validity }
@@ -55,21 +56,16 @@ abbrev pub MoreLessGives : List Reading → (List Timing → Type 0) → Type 0
 MoreLessGives ds P = (ts : List Timing) × ((more_less ds ≡ Ok ts) × P ts)
 
 -- a walk from position p with new books for a list ends so
-abbrev pub WalkEnds : {Pos : Type 0} → Kind Pos → Pos → List Reading → Ending → Type 0
-WalkEnds kind p ds (Granted mark len) = Walks kind p (new_books ds) (granted mark len)
-WalkEnds kind p ds (Refused refusal) = Walks kind p (new_books ds) (refused (told refusal))
-WalkEnds kind p ds (Finishes first second third) = ⊥
-WalkEnds kind p ds (Shown row) = ⊥
-WalkEnds kind p ds (Says said) = ⊥
+abbrev pub WalkEnds : {Pos : Type 0} → Kind Pos → Pos → List Reading → Result Ending Refusal → Type 0
+WalkEnds kind p ds (Ok (Granted mark len)) = Walks kind p (new_books ds) (granted mark len)
+WalkEnds kind p ds (Err refusal) = Walks kind p (new_books ds) (refused (told refusal))
+WalkEnds kind p ds _ = ⊥
 
 -- these are the first finishes of the first three rows along a course
-abbrev pub FinishEnds : Course → List Reading → Ending → Type 0
-FinishEnds c ds (Finishes first second third) =
+abbrev pub FinishEnds : Course → List Reading → Result Ending Refusal → Type 0
+FinishEnds c ds (Ok (Finishes first second third)) =
     FirstFinish c (new_books ds) 0 first × FirstFinish c (new_books ds) 1 second × FirstFinish c (new_books ds) 2 third
-FinishEnds c ds (Granted mark len) = ⊥
-FinishEnds c ds (Shown row) = ⊥
-FinishEnds c ds (Says said) = ⊥
-FinishEnds c ds (Refused refusal) = ⊥
+FinishEnds c ds _ = ⊥
 
 -- in a slot of a course row k + 1 is judged at an age that equals its validity, the slot has no fault, and it puts
 -- a value of this row on show
@@ -79,34 +75,28 @@ pub record JustValid (c : Course) (ds : List Reading) (slot k age row : ℕ) : T
   pub calm : fault_at c (new_books ds) slot ≡ None
   pub shows : row ≡ shown_row (c slot) (books_at c (new_books ds) slot)
 
-abbrev pub SlotEnds : Course → List Reading → (slot k age : ℕ) → Ending → Type 0
-SlotEnds c ds slot k age (Shown row) = JustValid c ds slot k age row
-SlotEnds c ds slot k age (Granted mark len) = ⊥
-SlotEnds c ds slot k age (Finishes first second third) = ⊥
-SlotEnds c ds slot k age (Says said) = ⊥
-SlotEnds c ds slot k age (Refused refusal) = ⊥
+abbrev pub SlotEnds : Course → List Reading → (slot k age : ℕ) → Result Ending Refusal → Type 0
+SlotEnds c ds slot k age (Ok (Shown row)) = JustValid c ds slot k age row
+SlotEnds c ds slot k age _ = ⊥
 
 -- whether the books of one list after so many slots of its course may cross to another list with its course, by
 -- the first finish of each row there
 pub record CrossingTest (c : Course) (old : List Reading) (n : ℕ) (d : Course) (new : List Reading) (said : Bool) : Type 0 where
   pub finishes : List ℕ
   pub first : (k : ℕ) → k < length new → FirstFinish d (new_books new) k (slice_index finishes k)
-  pub says : Decides said (MayCross (books_at c (new_books old) n) new finishes)
+  pub says : IsTrue said ↔ MayCross (books_at c (new_books old) n) new finishes
 
-abbrev pub CrossingEnds : Course → List Reading → ℕ → Course → List Reading → Ending → Type 0
-CrossingEnds c old n d new (Says said) = CrossingTest c old n d new said
-CrossingEnds c old n d new (Granted mark len) = ⊥
-CrossingEnds c old n d new (Finishes first second third) = ⊥
-CrossingEnds c old n d new (Shown row) = ⊥
-CrossingEnds c old n d new (Refused refusal) = ⊥
+abbrev pub CrossingEnds : Course → List Reading → ℕ → Course → List Reading → Result Ending Refusal → Type 0
+CrossingEnds c old n d new (Ok (Says said)) = CrossingTest c old n d new said
+CrossingEnds c old n d new _ = ⊥
 
 -- X crosses to Y at an instant, both by More-Less
-abbrev pub XToY : ℕ → Ending → Type 0
+abbrev pub XToY : ℕ → Result Ending Refusal → Type 0
 XToY n e =
     MoreLessGives readings_x (λ ts. MoreLessGives readings_y (λ us. CrossingEnds (periodic_course (start ts)) readings_x n (periodic_course (start us)) readings_y e))
 
--- the rules give this ending for an example
-abbrev pub RulesGive : Asked → Ending → Type 0
+-- the rules give this answer for an example
+unfoldable pub RulesGive : Asked → Result Ending Refusal → Type 0
 RulesGive HalfHalfOfX e = WalkEnds periodic (start (half_half readings_x)) readings_x e
 RulesGive MoreLessOfX e = MoreLessGives readings_x (λ ts. WalkEnds periodic (start ts) readings_x e)
 RulesGive FinishesOfX e = MoreLessGives readings_x (λ ts. FinishEnds (periodic_course (start ts)) readings_x e)
@@ -119,6 +109,6 @@ RulesGive CrossingAtSix e = XToY 6 e
 RulesGive CrossingAtSeven e = XToY 7 e
 
 -- and no other
-pub record RulesGiveOnly (a : Asked) (r : Ending) : Type 0 where
+pub record RulesGiveOnly (a : Asked) (r : Result Ending Refusal) : Type 0 where
   pub this : RulesGive a r
-  pub only : (e : Ending) → RulesGive a e → e ≡ r
+  pub only : (e : Result Ending Refusal) → RulesGive a e → e ≡ r

@@ -5,31 +5,19 @@ use Rattle.readings.specs.declared.reading.Reading.{Reading}
 use Rattle.readings.specs.declared.refusal.Refusal.{Refusal}
 use Rattle.policy.specs.Course.{Course}
 use Rattle.planner.specs.Periods.{more_less}
-use Rattle.planner.specs.declared.timing.Timing.{Timing}
 use Rattle.periodic.specs.Positions.{rows_of as kept_of}
 use Rattle.periodic.specs.declared.periodic.Periodic.{Periodic}
 use Rattle.books.specs.Held.{rows_of}
 use Rattle.books.specs.Slots.{books_at, fault_at, shown_row}
 use Rattle.books.specs.declared.books.Books.{Books}
-use Rattle.walk.specs.Walks.{Kind, Outcome, Walks, refused}
-use Rattle.examples.specs.Given.{FinishEnds, new_books, start}
+use Rattle.examples.specs.Given.{MoreLessGives, new_books, start}
 use Rattle.examples.specs.declared.ending.Ending.{Ending}
-use Rattle.examples.specs.declared.ending.Ending.TheVariants.{Refused, Shown}
-
--- the ending that a run comes to
-abbrev pub comes_to : Result Ending Refusal → Ending
-comes_to (Ok e) = e
-comes_to (Err r) = Refused r
+use Rattle.examples.specs.declared.ending.Ending.TheVariants.{Shown}
 
 -- a periodic policy at the start of the timings that More-Less gives, or its refusal
 abbrev pub Planned : List Reading → Result Periodic Refusal → Type 0
-Planned ds (Ok p) = (ts : List Timing) × ((more_less ds ≡ Ok ts) × (kept_of p ≡ start ts))
+Planned ds (Ok p) = MoreLessGives ds (λ ts. kept_of p ≡ start ts)
 Planned ds (Err r) = more_less ds ≡ Err (told r)
-
--- the first finishes of three rows, or the refusal that the walk ends in
-abbrev pub FinishAnswer : {Pos : Type 0} → Kind Pos → Pos → List Reading → Result Ending Refusal → Type 0
-FinishAnswer kind p ds (Ok e) = FinishEnds (kind.course p) ds e
-FinishAnswer kind p ds (Err r) = (x : Outcome) → Walks kind p (new_books ds) x → x ≡ refused (told r)
 
 -- some slot of a course has a fault
 abbrev pub Faulty : Course → List Reading → Type 0

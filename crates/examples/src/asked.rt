@@ -1,6 +1,7 @@
-ghost use Rattle.examples.specs.Given.{RulesGive, RulesGiveOnly, WalkEnds, XToY, readings_x, readings_y, start};
-ghost use Rattle.examples.specs.Runs.{AfterAnswer, FinishAnswer, Planned, SlotAnswer, comes_to};
+ghost use Rattle.examples.specs.Given.{FinishEnds, MoreLessGives, RulesGive, RulesGiveOnly, WalkEnds, XToY, readings_x, readings_y, start};
+ghost use Rattle.examples.specs.Runs.{AfterAnswer, Planned, SlotAnswer};
 ghost use Rattle.periodic.specs.Positions.{rows_of as kept_of};
+ghost use Rattle.periodic.specs.Rows.{periodic_course};
 ghost use Rattle.planner.specs.Periods.{half_half};
 ghost use Rattle.readings.specs.Lists.{rows_of as readings_of};
 ghost use Rattle.std.specs.Prelude.{◌≡◌, length};
@@ -17,6 +18,7 @@ use readings::refusal::Refusal;
 use walk::plan::Accepted;
 
 // An example.
+// A match, not a table of closures: promises go by the case, and runs of different policies have no one type.
 #[derive(Clone, Copy)]
 pub enum Asked {
     HalfHalfOfX,
@@ -61,53 +63,53 @@ impl Asked {
         }
     }
 
-    // The one ending that the rules give for the example.
-    pub fn expected(self) -> Ending
+    // The one answer that the rules give for the example.
+    #[tactic(auto, using(crate::proofs::Only::one_answer))]
+    pub fn expected(self) -> Result<Ending, Refusal>
         ensures { RulesGiveOnly self result }
     {
         match self {
-            Asked::HalfHalfOfX => Ending::Refused(Refusal::JobRule { slot: 10, row: 3 }),
-            Asked::MoreLessOfX => Ending::Granted {
+            Asked::HalfHalfOfX => Err(Refusal::JobRule { slot: 10, row: 3 }),
+            Asked::MoreLessOfX => Ok(Ending::Granted {
                 mark: 31,
                 length: 28,
-            },
-            Asked::FinishesOfX => Ending::Finishes(1, 3, 6),
-            Asked::MoreLessOfY => Ending::Granted { mark: 7, length: 6 },
-            Asked::AgeTwelveOfY => Ending::Shown(3),
-            Asked::AsleepOverX => Ending::Refused(Refusal::Stale { slot: 5, row: 1 }),
-            Asked::DoubtingOverX => Ending::Refused(Refusal::NoRepeat),
-            Asked::CrossingAtOne => Ending::Says(false),
-            Asked::CrossingAtSix => Ending::Says(true),
-            Asked::CrossingAtSeven => Ending::Says(false),
+            }),
+            Asked::FinishesOfX => Ok(Ending::Finishes(1, 3, 6)),
+            Asked::MoreLessOfY => Ok(Ending::Granted { mark: 7, length: 6 }),
+            Asked::AgeTwelveOfY => Ok(Ending::Shown(3)),
+            Asked::AsleepOverX => Err(Refusal::Stale { slot: 5, row: 1 }),
+            Asked::DoubtingOverX => Err(Refusal::NoRepeat),
+            Asked::CrossingAtOne => Ok(Ending::Says(false)),
+            Asked::CrossingAtSix => Ok(Ending::Says(true)),
+            Asked::CrossingAtSeven => Ok(Ending::Says(false)),
         }
     }
 
     // What running the example from start to end answers: what the rules give, and so what is expected.
-    pub fn answer(self) -> Ending
+    #[tactic(auto, using(crate::proofs::Only::one_answer))]
+    pub fn answer(self) -> Result<Ending, Refusal>
         ensures { RulesGiveOnly self result }
     {
-        match self.run() {
-            Ok(ending) => ending,
-            Err(refusal) => Ending::Refused(refusal),
-        }
+        self.run()
     }
 
+    #[tactic(auto, unfolding(crate::specs::Given::RulesGive))]
     fn run(self) -> Result<Ending, Refusal>
-        ensures { RulesGive self (comes_to result) }
+        ensures { RulesGive self result }
     {
         let x = list_x()?;
         let y = list_y()?;
         match self {
             Asked::HalfHalfOfX => granted(&x, half_half(&x)),
             Asked::MoreLessOfX => granted(&x, more_less(&x)?),
-            Asked::FinishesOfX => finishes(&x, more_less(&x)?),
+            Asked::FinishesOfX => finishes_of_x(),
             Asked::MoreLessOfY => granted(&y, more_less(&y)?),
             Asked::AgeTwelveOfY => slot_after(&y, more_less(&y)?, 11),
             Asked::AsleepOverX => granted(&x, Asleep),
             Asked::DoubtingOverX => granted(&x, Doubting(more_less(&x)?)),
-            Asked::CrossingAtOne => crossing_after(&x, &y, 1),
-            Asked::CrossingAtSix => crossing_after(&x, &y, 6),
-            Asked::CrossingAtSeven => crossing_after(&x, &y, 7),
+            Asked::CrossingAtOne => crossing_after(1),
+            Asked::CrossingAtSix => crossing_after(6),
+            Asked::CrossingAtSeven => crossing_after(7),
         }
     }
 }
@@ -125,7 +127,7 @@ fn more_less(list: &Readings) -> Result<Periodic, Refusal>
 }
 
 fn granted<P: Policy>(list: &Readings, policy: P) -> Result<Ending, Refusal>
-    ensures { WalkEnds (record { course = P.Policy.course; next = P.Policy.next; alike = P.Policy.alike }) (P.Policy.position policy) (readings_of list.now) (comes_to result) }
+    ensures { WalkEnds (record { course = P.Policy.course; next = P.Policy.next; alike = P.Policy.alike }) (P.Policy.position policy) (readings_of list.now) result }
 {
     let plan = Accepted::walk(list, policy)?;
     Ok(Ending::Granted {
@@ -134,11 +136,12 @@ fn granted<P: Policy>(list: &Readings, policy: P) -> Result<Ending, Refusal>
     })
 }
 
-fn finishes<P: Policy>(list: &Readings, policy: P) -> Result<Ending, Refusal>
-    requires { length (readings_of list.now) ≡ 3 }
-    ensures { FinishAnswer (record { course = P.Policy.course; next = P.Policy.next; alike = P.Policy.alike }) (P.Policy.position policy) (readings_of list.now) result }
+// The first finishes of list X by More-Less.
+fn finishes_of_x() -> Result<Ending, Refusal>
+    ensures { MoreLessGives readings_x (λ ts. FinishEnds (periodic_course (start ts)) readings_x result) }
 {
-    let plan = Accepted::walk(list, policy)?;
+    let x = list_x()?;
+    let plan = Accepted::walk(&x, more_less(&x)?)?;
     let finishes = plan.first_finishes();
     Ok(Ending::Finishes(finishes[0], finishes[1], finishes[2]))
 }
@@ -149,9 +152,9 @@ fn after<P: Policy>(list: &Readings, mut policy: P, slots: u16) -> Result<(Books
 {
     let mut books = Books::new(list);
     for slot in 0..slots {
-        if let Err(fault) = books.take(policy.step()) {
-            return Err(fault.refusal(slot));
-        }
+        books
+            .take(policy.step())
+            .map_err(|fault| fault.refusal(slot))?;
     }
     Ok((books, policy))
 }
@@ -161,19 +164,19 @@ fn slot_after<P: Policy>(list: &Readings, policy: P, slots: u16) -> Result<Endin
     ensures { SlotAnswer (P.Policy.course (P.Policy.position policy)) (readings_of list.now) slots result }
 {
     let (mut books, mut policy) = after(list, policy, slots)?;
-    match books.take(policy.step()) {
-        Ok(row) => Ok(Ending::Shown(row)),
-        Err(fault) => Err(fault.refusal(slots)),
-    }
+    let row = books
+        .take(policy.step())
+        .map_err(|fault| fault.refusal(slots))?;
+    Ok(Ending::Shown(row))
 }
 
 // Whether a board that runs X by More-Less may cross to Y by More-Less after so many slots.
-fn crossing_after(x: &Readings, y: &Readings, slots: u16) -> Result<Ending, Refusal>
-    requires list_x { readings_of x.now ≡ readings_x }
-    requires list_y { readings_of y.now ≡ readings_y }
-    ensures { XToY slots (comes_to result) }
+fn crossing_after(slots: u16) -> Result<Ending, Refusal>
+    ensures { XToY slots result }
 {
-    let (books, _policy) = after(x, more_less(x)?, slots)?;
-    let plan = Accepted::walk(y, more_less(y)?)?;
+    let x = list_x()?;
+    let y = list_y()?;
+    let (books, _policy) = after(&x, more_less(&x)?, slots)?;
+    let plan = Accepted::walk(&y, more_less(&y)?)?;
     Ok(Ending::Says(plan.may_cross(&books)))
 }

@@ -1,7 +1,7 @@
 use readings::refusal::Refusal;
 use std::fmt;
 
-// What an example is answered with.
+// What an example that is not refused comes to.
 #[derive(Clone, Copy, PartialEq, Eq, Debug)]
 pub enum Ending {
     // a walk was granted with this mark and length
@@ -12,8 +12,6 @@ pub enum Ending {
     Shown(u8),
     // a test said yes or no
     Says(bool),
-    // a call was refused
-    Refused(Refusal),
 }
 
 impl fmt::Display for Ending {
@@ -24,17 +22,29 @@ impl fmt::Display for Ending {
             Ending::Shown(row) => write!(f, "fresh, row {row} shown"),
             Ending::Says(true) => write!(f, "yes"),
             Ending::Says(false) => write!(f, "no"),
-            Ending::Refused(Refusal::JobRule { slot, row }) => write!(
-                f,
-                "no 11, slot {slot}, row {row}"
-            ),
-            Ending::Refused(Refusal::Stale { slot, row }) => write!(
-                f,
-                "no 12, slot {slot}, row {row}"
-            ),
-            Ending::Refused(refusal) => {
+        }
+    }
+}
+
+// What an example is answered with, as it is written: an ending, or a refusal's number, for a fault with its slot
+// and row.
+#[derive(Clone, Copy)]
+pub struct Answer(pub Result<Ending, Refusal>);
+
+impl fmt::Display for Answer {
+    fn fmt<W: fmt::Write>(&self, f: &mut fmt::Formatter<W>) -> fmt::Result {
+        match self.0 {
+            Ok(ending) => write!(f, "{ending}"),
+            Err(refusal) => {
                 let number = refusal.number();
-                write!(f, "no {number}")
+                write!(f, "no {number}")?;
+                match refusal {
+                    Refusal::JobRule { slot, row } | Refusal::Stale { slot, row } => write!(
+                        f,
+                        ", slot {slot}, row {row}"
+                    ),
+                    _ => Ok(()),
+                }
             }
         }
     }

@@ -8,6 +8,7 @@ mod kinds;
 mod lists;
 
 use asked::Asked;
+use ending::Answer;
 use std::io::{BufWriter, Write};
 
 fn main(rt: HostRuntime) -> anyhow::Result<()> {
@@ -24,7 +25,8 @@ fn run(rt: &HostRuntime) -> anyhow::Result<()> {
         } else {
             "NOT as expected"
         };
-        writeln!(out, "{title}: {answered}: {verdict}")?;
+        let answer = Answer(answered);
+        writeln!(out, "{title}: {answer}: {verdict}")?;
     }
     out.flush()?;
     Ok(())

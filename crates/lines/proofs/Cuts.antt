@@ -1,32 +1,36 @@
 -- Where a text is cut first, and what is left of it then.
-use Rattle.std.proofs.Common.{◌≡◌, ℕ, zero, suc, ◌<◌, false, eqb, List, [], ◌∷◌, length, get_or, take, drop, refl, ap, ◌∙◌, arith}
-use Rattle.std.proofs.lemmas.Bool.{eq-eqb, ne_eqb, cond-true, cond-false, cond_both}
+use Rattle.std.proofs.Common.{◌≡◌, ℕ, ◌+◌, ◌<◌, ◌==◌, Bool, false, List, [], ◌∷◌, length, take, drop, Some, None, position, refl, arith}
+use Rattle.std.proofs.lemmas.Bool.Decides.{nat_tests}
+use Rattle.std.proofs.lemmas.List.{take_rest}
+use Rattle.std.proofs.lemmas.List.Elements.{All-from_get_or}
+use Rattle.std.proofs.lemmas.List.Splits.{length-slice_split, slice_split_first, slice_split_none}
+use Rattle.std.proofs.lemmas.List.Sums.{fails_before_first}
+use Rattle.std.proofs.lemmas.Option.{cond_some}
+use Rattle.std.specs.List.{slice_split}
 use Rattle.lines.specs.Left.{none_left}
-use Rattle.lines.specs.Pieces.{pieces, onto_first}
+use Rattle.lines.specs.Pieces.{pieces}
 
--- a byte that is no separator goes in front of the first piece
-inside : (mark b : ℕ) (bs : List ℕ) → (b ≡ mark → ⊥) → pieces mark (b ∷ bs) ≡ onto_first b (pieces mark bs)
-inside mark b bs h = cond-false (eqb b mark) _ _ (ne_eqb b mark h)
+-- where no byte passes, the text is the one part
+pub one_part : (p : ℕ → Bool) (s : List ℕ) → position p s ≡ None → slice_split p s ≡ s ∷ []
+one_part p s h =
+    slice_split_none p s (All-from_get_or (λ b. p b ≡ false) s 0 (λ k lt. fails_before_first p s k 0 (grind (arith, nat_tests))))
 
--- a text without a separator is one piece
-pub one_piece : (mark : ℕ) (s : List ℕ) → ((k : ℕ) → k < length s → get_or s k 0 ≡ mark → ⊥) → pieces mark s ≡ s ∷ []
-one_piece mark [] h = refl
-one_piece mark (b ∷ bs) h =
-    inside mark b bs (h 0 (omega arith)) ∙ ap (onto_first b) (one_piece mark bs (λ k lt. h (suc k) (omega arith)))
+-- the first part ends before the first byte that passes, and the others are those of what lies behind it
+pub first_part : (p : ℕ → Bool) (s : List ℕ) (i : ℕ) → position p s ≡ Some i → slice_split p s ≡ take i s ∷ slice_split p (drop (i + 1) s)
+first_part p s i h =
+    let at = cond_some _ _ i h in
+    let within : i < length s = grind (arith, nat_tests) in
+    let e = slice_split_first p s 0 (omega arith) in
+    grind (arith, e)
 
--- the first piece ends before the first separator, and the others are those of what lies behind it
-pub first_piece : (mark : ℕ) (s : List ℕ) (i : ℕ) → i < length s → ((k : ℕ) → k < i → get_or s k 0 ≡ mark → ⊥) → get_or s i 0 ≡ mark → pieces mark s ≡ take i s ∷ pieces mark (drop (suc i) s)
-first_piece mark [] i lt before here = absurd (omega arith)
-first_piece mark (b ∷ bs) zero lt before here = cond-true (eqb b mark) _ _ (eq-eqb b mark here)
-first_piece mark (b ∷ bs) (suc i) lt before here =
-    inside mark b bs (before 0 (omega arith)) ∙ ap (onto_first b) (first_piece mark bs i (omega arith) (λ k l. before (suc k) (omega arith)) here)
+-- how a text is cut
+pub ruleset cuts = (one_part, first_part, take_rest)
 
-some_onto : (b : ℕ) (ws : List (List ℕ)) → none_left (onto_first b ws) ≡ false
-some_onto b [] = refl
-some_onto b (w ∷ ws) = refl
+-- a list of one or more pieces has some left
+some_left : (ws : List (List ℕ)) → 0 < length ws → none_left ws ≡ false
+some_left [] h = absurd (omega arith)
+some_left (w ∷ ws) h = refl
 
 -- no text has no piece
 pub some_piece : (mark : ℕ) (s : List ℕ) → none_left (pieces mark s) ≡ false
-some_piece mark [] = refl
-some_piece mark (b ∷ bs) =
-    cond_both (eqb b mark) ([] ∷ pieces mark bs) (onto_first b (pieces mark bs)) (λ ws. none_left ws ≡ false) (λ _. refl) (λ _. some_onto b (pieces mark bs))
+some_piece mark s = some_left _ (omega (arith, length-slice_split (λ b. b == mark) s))

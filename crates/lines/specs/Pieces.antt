@@ -1,11 +1,7 @@
 -- A text cut at each byte of one value.
-use Rattle.std.specs.Prelude.{ℕ, cond, List, [], ◌∷◌, ◌==◌}
-
-abbrev pub onto_first : ℕ → List (List ℕ) → List (List ℕ)
-onto_first b [] = (b ∷ []) ∷ []
-onto_first b (w ∷ ws) = (b ∷ w) ∷ ws
+use Rattle.std.specs.Prelude.{ℕ, List, ◌==◌}
+use Rattle.std.specs.List.{slice_split}
 
 -- the pieces before, between and behind the bytes of value `at`: one piece more than there are such bytes
 abbrev pub pieces : ℕ → List ℕ → List (List ℕ)
-pieces at [] = [] ∷ []
-pieces at (b ∷ bs) = cond (b == at) ([] ∷ pieces at bs) (onto_first b (pieces at bs))
+pieces at text = slice_split (λ b. b == at) text

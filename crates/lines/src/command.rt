@@ -24,7 +24,7 @@ const LONGEST: usize = 80;
 
 impl Command {
     // The command of a line, given without the byte that ends it; none where the line is malformed
-    // or has more than 80 bytes.
+    // or has more than 80 bytes. No `TryFrom`, since nothing is told of a malformed line.
     pub fn of(line: &[u8]) -> Option<Command>
         ensures { result ≡ command_of line.now }
     {
@@ -32,17 +32,12 @@ impl Command {
             return None;
         }
         let mut pieces = Pieces::new(line, b' ');
-        let verb = Token::of(pieces.next()?);
-        if verb.is(b"plan") {
-            alone(pieces, Command::Plan)
-        } else if verb.is(b"reading") {
-            reading(pieces)
-        } else if verb.is(b"half") {
-            alone(pieces, Command::Half)
-        } else if verb.is(b"more") {
-            alone(pieces, Command::More)
-        } else {
-            None
+        match Token::from(pieces.next()?) {
+            Token::Word(b"plan") => alone(pieces, Command::Plan),
+            Token::Word(b"reading") => reading(pieces),
+            Token::Word(b"half") => alone(pieces, Command::Half),
+            Token::Word(b"more") => alone(pieces, Command::More),
+            _ => None,
         }
     }
 }
@@ -69,5 +64,5 @@ fn next_number(pieces: &mut Pieces) -> Option<u16>
     ensures value { result ≡ first_number (left pieces.old) }
     ensures rest { left pieces.new ≡ behind_first (left pieces.old) }
 {
-    Token::of(pieces.next()?).number()
+    Token::from(pieces.next()?).number()
 }

@@ -4,9 +4,8 @@ ghost use Rattle.lines.specs.Numeral.{decimal, numeral};
 
 const MOST_DIGITS: usize = 5;
 
-const LARGEST: u32 = 65_535;
-
-// The value of 1 to 5 digits, leading zeros among them, of at most 65,535; none of anything else.
+// The value of 1 to 5 digits, leading zeros among them, of at most 65,535; none of anything else. Not by `parse`,
+// which takes a sign, and any number of zeros in front.
 pub fn number(digits: &[u8]) -> Option<u16>
     ensures { result ≡ numeral digits.now }
 {
@@ -14,11 +13,7 @@ pub fn number(digits: &[u8]) -> Option<u16>
         return None;
     }
     let value = decimal(digits)?;
-    if value <= LARGEST {
-        Some(value as u16)
-    } else {
-        None
-    }
+    u16::try_from(value).ok()
 }
 
 // The value of at most 5 digits; none where a byte is no digit.
@@ -26,12 +21,10 @@ fn decimal(digits: &[u8]) -> Option<u32>
     requires { length digits.now ≤ 5 }
     ensures { result ≡ decimal 0 digits.now }
 {
-    let mut value: u32 = 0;
+    // a `for`, since a closure of `try_fold` would know no bound on the value so far
+    let mut value = 0;
     for byte in digits {
-        if !byte.is_ascii_digit() {
-            return None;
-        }
-        value = value * 10 + u32::from(*byte - b'0');
+        value = value * 10 + char::from(*byte).to_digit(10)?;
     }
     Some(value)
 }

@@ -1,6 +1,7 @@
 use crate::command::Command;
 use crate::number::number;
 use crate::pieces::Pieces;
+use crate::token::Token;
 use std::test::Fail;
 
 #[test]
@@ -14,6 +15,12 @@ fn not_numbers(rt: HostRuntime) {
     assert_eq!(rt; number(b"65536"), None);
     assert_eq!(rt; number(b""), None);
     assert_eq!(rt; number(b"123456"), None);
+}
+
+#[test]
+fn tokens(rt: HostRuntime) {
+    assert!(rt; Token::from(b"plan".as_slice()).is(b"plan"));
+    assert!(rt; !Token::from(b"planned".as_slice()).is(b"plan"));
 }
 
 #[test]

@@ -1,8 +1,8 @@
 // The tokens of a line.
 ghost use Rattle.std.specs.Prelude.{◌≡◌};
+ghost use Rattle.std.specs.Str.{bytes_eq};
 ghost use Rattle.lines.specs.Numeral.{numeral};
 ghost use Rattle.lines.specs.Tokens.{begins_with_digit, bytes_of, is_number, worth};
-ghost use Rattle.lines.specs.Words.{same_bytes};
 
 use crate::number::number;
 
@@ -14,29 +14,21 @@ pub enum Token<'a> {
     Number(&'a [u8]),
 }
 
-impl<'a> Token<'a> {
+impl<'a> From<&'a [u8]> for Token<'a> {
+    ghost from_gives = { λ piece token. (bytes_of token ≡ piece.now)
+        × (is_number token ≡ begins_with_digit piece.now)
+        × (worth token ≡ numeral piece.now) };
+
     // A piece as a token: a number where its first byte is a digit, else a word.
-    pub fn of(piece: &'a [u8]) -> Token<'a>
-        ensures bytes { bytes_of result ≡ piece.now }
-        ensures kind { is_number result ≡ begins_with_digit piece.now }
-        ensures value { worth result ≡ numeral piece.now }
-    {
-        if begins_with_digit(piece) {
-            Token::Number(piece)
-        } else {
-            Token::Word(piece)
+    fn from(piece: &'a [u8]) -> Token<'a> {
+        match piece {
+            [b'0'..=b'9', ..] => Token::Number(piece),
+            _ => Token::Word(piece),
         }
     }
+}
 
-    fn bytes(&self) -> &'a [u8]
-        ensures { result.now ≡ bytes_of self.now }
-    {
-        match self {
-            Token::Word(bytes) => bytes,
-            Token::Number(digits) => digits,
-        }
-    }
-
+impl<'a> Token<'a> {
     // The value of a number; none of a word.
     pub fn number(&self) -> Option<u16>
         ensures { result ≡ worth self.now }
@@ -49,17 +41,9 @@ impl<'a> Token<'a> {
 
     // Whether the token is the given word.
     pub fn is(&self, word: &[u8]) -> bool
-        ensures { result ≡ same_bytes (bytes_of self.now) word.now }
+        ensures { result ≡ bytes_eq (bytes_of self.now) word.now }
     {
-        self.bytes() == word
-    }
-}
-
-fn begins_with_digit(piece: &[u8]) -> bool
-    ensures { result ≡ begins_with_digit piece.now }
-{
-    match piece {
-        [first, ..] => first.is_ascii_digit(),
-        [] => false,
+        let (Token::Word(bytes) | Token::Number(bytes)) = self;
+        *bytes == word
     }
 }

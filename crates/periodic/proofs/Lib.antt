@@ -3,6 +3,5 @@ mod Masks
 mod Phases
 mod Played
 mod Runs
-mod Sames
 mod Samples
 mod Steps

@@ -1,10 +1,9 @@
 -- The mask of the rows to sample.
-use Rattle.std.proofs.Common.{◌≡◌, ℕ, zero, suc, ◌+◌, ◌*◌, ◌/◌, ◌%◌, ◌^◌, ◌<◌, ◌≤◌, cond, List, [], ◌∷◌, length, get_or, drop, ap, ◌∙◌, mod-eq_of_lt, pow-suc, zero-add, div-one, arith, pow_mono}
+use Rattle.std.proofs.Common.{◌≡◌, ℕ, zero, suc, ◌+◌, ◌*◌, ◌/◌, ◌%◌, ◌^◌, ◌<◌, ◌≤◌, cond, List, [], ◌∷◌, length, get_or, ap, ◌∙◌, mod-eq_of_lt, one-mul, pow-suc, zero-add, div-one, arith, pow_mono}
 use native.Mathlib.Nat.{add-mul-div_left, add-mul-mod_self_left, div-div-eq-div-mul, div-eq_of_lt, pow-succ'}
-use Rattle.std.proofs.lemmas.List.{length-drop}
 use Rattle.std.proofs.lemmas.Bool.Decides.{nat_tests}
 use Rattle.periodic.specs.declared.row.Row.{Row}
-use Rattle.periodic.specs.Plays.{names}
+use Rattle.policy.specs.Course.{names}
 use Rattle.periodic.specs.Rows.{blank_row, due, mask}
 
 bit_small : (r : Row) → cond (due r) 1 0 ≤ 1
@@ -15,13 +14,18 @@ pub mask_small : (rs : List Row) → mask rs < 2 ^ length rs
 mask_small [] = omega arith
 mask_small (r ∷ rs) = let b = bit_small r in let s = mask_small rs in rw pow-suc (omega arith)
 
--- the mask of 16 rows at most, some of the first left out, leaves room for one bit more
-pub mask_room : (rs : List Row) (k : ℕ) → length rs ≤ 16 → 0 < k → mask (drop k rs) < 2 ^ 15
-mask_room rs k n h =
-    let s = mask_small (drop k rs) in
-    let l = length-drop k rs in
-    let m = pow_mono {i = length (drop k rs)} {j = 15} (omega arith) in
+-- a mask of 16 rows at most fits 16 bits
+pub mask_fits : (rs : List Row) → length rs ≤ 16 → mask rs < 65536
+mask_fits rs n =
+    let s = mask_small rs in
+    let m : 2 ^ length rs ≤ 2 ^ 16 = pow_mono {i = length rs} {j = 16} n in
     omega arith
+
+-- and so does a bit of it
+pub bit_fits : (k : ℕ) → k < 16 → 1 * 2 ^ k % 65536 ≡ 2 ^ k
+bit_fits k h =
+    let m : 2 ^ k ≤ 2 ^ 15 = pow_mono {i = k} {j = 15} (omega arith) in
+    ap (λ (n : ℕ). n % 65536) (one-mul (2 ^ k)) ∙ mod-eq_of_lt (omega arith)
 
 -- the lowest bit of b + 2 * m is b, and the others are those of m
 low_bit : (b m : ℕ) → b ≤ 1 → (b + 2 * m) / 2 ^ 0 % 2 ≡ b

@@ -1,7 +1,7 @@
 -- A new periodic policy plays its timings: what it keeps of each row in slot n, and the law that follows.
-use Rattle.std.proofs.Common.{◌≡◌, ℕ, zero, suc, ◌+◌, ◌-◌, ◌%◌, ◌<◌, Bool, true, false, cond, eqb, List, map, length, get_or, sym, refl, ap, ◌∙◌, arith}
+use Rattle.std.proofs.Common.{◌≡◌, ℕ, zero, suc, ◌+◌, ◌-◌, ◌%◌, ◌<◌, ◌≤◌, take, Bool, true, false, cond, eqb, List, map, length, get_or, sym, refl, ap, ◌∙◌, arith}
 use native.Mathlib.Nat.{sub-zero}
-use Rattle.std.proofs.lemmas.List.{get_or-map, length-map}
+use Rattle.std.proofs.lemmas.List.{get_or-map, length-map, take_all}
 use Rattle.policy.proofs.Stepping.{last_step}
 use Rattle.policy.specs.Course.{steps}
 use Rattle.planner.specs.Timing.{Positive, blank}
@@ -103,3 +103,7 @@ periodic_plays ts p =
           let i = rows_in ts p n in
           omega (arith, lowest_within (map sampled (rows_at ts n)), length-map (rows_at ts n) sampled, i.count);
     }
+
+-- as many timings as there may be all begin
+pub all_begun : (ts : List Timing) (rows : List Row) → length ts ≤ 16 → rows ≡ map begun (take 16 ts) → rows ≡ map begun ts
+all_begun ts rows h e = e ∙ ap (map begun) (take_all 16 ts h)

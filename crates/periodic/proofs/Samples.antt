@@ -1,45 +1,60 @@
--- The samples of a slot, taken from the last row to the first.
-use Rattle.std.proofs.Common.{◌≡◌, ℕ, ◌+◌, ◌*◌, ◌<◌, ◌≤◌, Bool, true, false, cond, List, [], ◌∷◌, ◌++◌, map, length, get_or, take, drop, set, refl, append_assoc, append-nil, arith}
-use mir.Val.{bool_byte}
-use Rattle.std.proofs.lemmas.List.{at_drop_more, drop_all, drop_more, get_or_at, length-take-le, set_at, take_all, take_more}
+-- The samples of a slot, taken from the first row to the last.
+use Rattle.std.proofs.Common.{◌≡◌, ℕ, ◌+◌, ◌*◌, ◌^◌, ◌<◌, ◌≤◌, Bool, true, false, cond, List, ◌++◌, map, length, get_or, take, drop, set, refl, sym, ap, ◌∙◌, add-one, append-nil, mul-add, mul_assoc, mul-one, pow-suc, arith}
+use Rattle.std.proofs.lemmas.List.{at_drop_all, at_drop_more, drop_all, drop_more, get_or_at, get_or_default, length-map, length-take-le, take_all}
+use Rattle.std.proofs.lemmas.List.Edits.{map_over_more}
 use Rattle.periodic.specs.declared.row.Row.{Row}
 use Rattle.periodic.specs.Rows.{blank_row, due, mask, sampled}
 
--- the rows from the k-th on are sampled, and m has them
-abbrev pub SampledFrom : ℕ → List Row → ℕ → List Row → Type 0
-SampledFrom k old m rows = (m ≡ mask (drop k old)) × (rows ≡ take k old ++ map sampled (drop k old))
+-- the rows below the k-th are sampled, and m has them
+pub record SampledBelow (k : ℕ) (old : List Row) (m : ℕ) (rows : List Row) : Type 0 where
+  pub told : m + 2 ^ k * mask (drop k old) ≡ mask old
+  pub taken : rows ≡ map sampled (take k old) ++ drop k old
 
-pub sampled_none : (old : List Row) → SampledFrom (length old) old 0 old
-sampled_none old =
-    let d = drop_all (length old) old (omega arith) in
-    let t = take_all (length old) old (omega arith) in
-    let n = append-nil old in
-    (cc, cc)
+pub sampled_none : (old : List Row) → SampledBelow 0 old 0 old
+sampled_none old = record { told = omega arith; taken = refl }
 
-byte_is : (b : Bool) → bool_byte b ≡ cond b 1 0
-byte_is true = refl
-byte_is false = refl
+-- a bit and the bits above it, moved k places up
+moved : (k b n : ℕ) → 2 ^ k * (b + 2 * n) ≡ 2 ^ k * b + 2 ^ (k + 1) * n
+moved k b n = mul-add (2 ^ k) b (2 * n) ∙ ap (λ (x : ℕ). 2 ^ k * b + x) (sym (mul_assoc (2 ^ k) 2 n) ∙ ap (λ (x : ℕ). x * n) (sym (pow-suc 2 k) ∙ ap (λ (x : ℕ). 2 ^ x) (sym (add-one k))))
 
-pub byte_small : (b : Bool) → bool_byte b < 2
-byte_small true = omega arith
-byte_small false = omega arith
+-- the row at k
+module _ (k : ℕ) (old : List Row) (m : ℕ) (rows : List Row) (h : k < length old) (s : SampledBelow k old m rows) where
+  was : get_or rows k blank_row ≡ get_or old k blank_row
+  was =
+      let n : length (map sampled (take k old)) ≡ k = length-map (take k old) sampled ∙ length-take-le k old (omega arith) in
+      ap (λ (rs : List Row). get_or rs k blank_row) (s.taken ∙ ap (λ (rs : List Row). map sampled (take k old) ++ rs) (drop_more old k blank_row h))
+      ∙ get_or_at (map sampled (take k old)) (get_or old k blank_row) (drop (k + 1) old) blank_row k n
 
--- a row more, in front of the others: b tells whether it was due, and r is what it became
-pub sampled_more : (k j : ℕ) (old : List Row) (m : ℕ) (rows : List Row) → k ≡ j + 1 → k ≤ length old → SampledFrom k old m rows
-    → (b : Bool) (r : Row) → b ≡ due (get_or rows j blank_row) → r ≡ sampled (get_or rows j blank_row)
-    → SampledFrom j old (m * 2 + bool_byte b) (set rows j r)
-sampled_more k j old m rows e h s b r f g =
-    let x : Row = get_or old j blank_row in
-    let rest : List Row = map sampled (drop (j + 1) old) in
-    let l : j < length old = omega arith in
-    let n = length-take-le j old (omega arith) in
-    let t = take_more old j blank_row l in
-    let d = drop_more old j blank_row l in
-    let a = append_assoc (take j old) (x ∷ []) rest in
-    let at = get_or_at (take j old) x rest blank_row j n in
-    let put = set_at (take j old) x rest r j n in
-    let more : mask (drop j old) ≡ cond (due x) 1 0 + 2 * mask (drop (j + 1) old) = at_drop_more mask old j blank_row l in
-    let was : get_or rows j blank_row ≡ x = cc in
-    let byte : bool_byte b ≡ cond (due x) 1 0 = cc (byte_is b) in
-    let last : m ≡ mask (drop (j + 1) old) = cc in
-    (omega arith, cc)
+  -- what its bit adds
+  bit : (b : Bool) → b ≡ due (get_or rows k blank_row) → m + 2 ^ k * cond b 1 0 + 2 ^ (k + 1) * mask (drop (k + 1) old) ≡ mask old
+  bit b d =
+      let one : ℕ = cond b 1 0 in
+      let rest : ℕ = mask (drop (k + 1) old) in
+      let here : mask (drop k old) ≡ cond (due (get_or old k blank_row)) 1 0 + 2 * rest = at_drop_more mask old k blank_row h in
+      let is : cond (due (get_or old k blank_row)) 1 0 ≡ one = ap (λ (r : Row). cond {A = ℕ} (due r) 1 0) (sym was) ∙ ap (λ (x : Bool). cond {A = ℕ} x 1 0) (sym d) in
+      let e : 2 ^ k * mask (drop k old) ≡ 2 ^ k * (one + 2 * rest) = ap (λ (n : ℕ). 2 ^ k * n) (here ∙ ap (λ (n : ℕ). n + 2 * rest) is) in
+      let split : 2 ^ k * (one + 2 * rest) ≡ 2 ^ k * one + 2 ^ (k + 1) * rest = moved k one rest in
+      let t : m + 2 ^ k * mask (drop k old) ≡ mask old = s.told in
+      omega arith
+
+  taken_more : (r : Row) → k < length rows → r ≡ sampled (get_or rows k blank_row) → set rows k r ≡ map sampled (take (k + 1) old) ++ drop (k + 1) old
+  taken_more r l e = rw e (map_over_more sampled old rows k (get_or rows k blank_row) h s.taken (get_or_default rows k blank_row (get_or rows k blank_row) l))
+
+  pub sampled_due : (r : Row) → k < length rows → true ≡ due (get_or rows k blank_row) → r ≡ sampled (get_or rows k blank_row) → SampledBelow (k + 1) old (m + 2 ^ k) (set rows k r)
+  sampled_due r l d e = let b = bit true d in record { told = rw mul-one at b; taken = taken_more r l e }
+
+  pub sampled_not : (r : Row) → k < length rows → false ≡ due (get_or rows k blank_row) → r ≡ sampled (get_or rows k blank_row) → SampledBelow (k + 1) old m (set rows k r)
+  sampled_not r l d e = let b = bit false d in record { told = omega arith; taken = taken_more r l e }
+
+  -- there is room for the bit of a row that is due
+  pub room : true ≡ due (get_or rows k blank_row) → m + 2 ^ k ≤ mask old
+  room d = let b = rw mul-one at (bit true d) in omega arith
+
+pub sampled_all : (k : ℕ) (old : List Row) (m : ℕ) (rows : List Row) → length old ≤ k → SampledBelow k old m rows → (m ≡ mask old) × (rows ≡ map sampled old)
+sampled_all k old m rows h s =
+    let none : mask (drop k old) ≡ 0 = at_drop_all mask old k h in
+    let t = rw none at s.told in
+    let a = take_all k old h in
+    let d = drop_all k old h in
+    let n = append-nil (map sampled old) in
+    (omega arith, s.taken ∙ (cc))

@@ -1,5 +1,6 @@
 -- The periodic kind: what it keeps of each row, what it answers, and where a step leads.
-use Rattle.std.specs.Prelude.{ℕ, zero, suc, ◌+◌, ◌-◌, ◌*◌, Bool, true, false, cond, ◌&&◌, List, [], ◌∷◌, map, ◌==◌, nat_lt}
+use Rattle.std.specs.Prelude.{ℕ, zero, suc, ◌+◌, ◌-◌, ◌*◌, Bool, if◌then◌else◌, ◌&&◌, List, [], ◌∷◌, map, ◌==◌, nat_lt}
+use Rattle.std.specs.Cmp.Lexicographic.{pointwise}
 use Rattle.policy.specs.Course.{Answer, Course, ahead}
 use Rattle.planner.specs.declared.timing.Timing.{Timing}
 use Rattle.periodic.specs.declared.row.Row.{Row}
@@ -23,14 +24,14 @@ sampled r =
     record {
       work = r.work;
       period = r.period;
-      until = cond (due r) (r.period - 1) (r.until - 1);
-      left = cond (due r) r.work r.left;
+      until = if due r then r.period - 1 else r.until - 1;
+      left = if due r then r.work else r.left;
     }
 
 -- the rows to sample: 2^(row - 1) for each
 abbrev pub mask : List Row → ℕ
 mask [] = 0
-mask (r ∷ rs) = cond (due r) 1 0 + 2 * mask rs
+mask (r ∷ rs) = (if due r then 1 else 0) + 2 * mask rs
 
 abbrev pub below : ℕ → ℕ
 below zero = zero
@@ -39,7 +40,7 @@ below (suc n) = suc (suc n)
 -- the lowest row with work left, counted from 1, or 0
 abbrev pub lowest : List Row → ℕ
 lowest [] = 0
-lowest (r ∷ rs) = cond (nat_lt 0 r.left) 1 (below (lowest rs))
+lowest (r ∷ rs) = if nat_lt 0 r.left then 1 else below (lowest rs)
 
 abbrev pub worked : Row → Row
 worked r = record { work = r.work; period = r.period; until = r.until; left = r.left - 1 }
@@ -47,7 +48,7 @@ worked r = record { work = r.work; period = r.period; until = r.until; left = r.
 -- the rows once the lowest row with work left has run for a slot
 abbrev pub run_lowest : List Row → List Row
 run_lowest [] = []
-run_lowest (r ∷ rs) = cond (nat_lt 0 r.left) (worked r ∷ rs) (r ∷ run_lowest rs)
+run_lowest (r ∷ rs) = if nat_lt 0 r.left then worked r ∷ rs else r ∷ run_lowest rs
 
 abbrev pub periodic_answer : List Row → Answer
 periodic_answer rs = (mask rs, lowest (map sampled rs))
@@ -63,7 +64,4 @@ same_row a b = a.work == b.work && (a.period == b.period && (a.until == b.until 
 
 -- all numbers kept are equal, row by row, and there are as many rows
 abbrev pub same_rows : List Row → List Row → Bool
-same_rows [] [] = true
-same_rows [] (y ∷ ys) = false
-same_rows (x ∷ xs) [] = false
-same_rows (x ∷ xs) (y ∷ ys) = same_row x y && same_rows xs ys
+same_rows = pointwise same_row

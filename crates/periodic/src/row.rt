@@ -1,11 +1,11 @@
-ghost use Rattle.periodic.specs.Rows.{begun, due, same_row, sampled};
+ghost use Rattle.periodic.specs.Rows.{begun, due, sampled};
 ghost use Rattle.std.specs.Prelude.{◌≡◌};
 
 use planner::timing::Timing;
 
 // What the periodic kind keeps of a row: its work length and period, the slots until its next sample,
 // and the work left of its job.
-#[derive(Clone, Copy)]
+#[derive(Clone, Copy, PartialEq, Eq, Debug)]
 pub struct Row {
     pub work: u8,
     pub period: u16,
@@ -39,15 +39,5 @@ impl Row {
             self.until -= 1;
             false
         }
-    }
-
-    // Whether both rows keep the same numbers.
-    pub(crate) fn same(&self, other: &Row) -> bool
-        ensures { result ≡ same_row self.now other.now }
-    {
-        self.work == other.work
-            && self.period == other.period
-            && self.until == other.until
-            && self.left == other.left
     }
 }

@@ -1,24 +1,37 @@
--- Rows with a period: while they are filled in, and of a `Timings` as a list.
-use Rattle.std.proofs.Common.{ℕ, ◌+◌, ◌<◌, ◌≤◌, ◌≢◌, List, length, get_or, set, arith, below_more}
-use Rattle.std.proofs.lemmas.List.{get_or-set_other, get_or-set_same, get_or-take, length-take-le}
-use Rattle.planner.specs.Timing.{WellTimed, blank}
-use Rattle.planner.specs.Timings.{timings_of}
+-- Rows with a period.
+use Rattle.std.proofs.Common.{◌≡◌, ◌<◌, ◌≤◌, List, [], ◌∷◌, ◌++◌, map, length, take, ap, ◌∙◌, inl, inr, arith}
+use Rattle.std.proofs.lemmas.Bool.{cases_lt}
+use Rattle.std.proofs.lemmas.List.{get_or_append_left, get_or_at, get_or-map, length-append, length-map, take_all}
+use Rattle.readings.specs.Ranges.{WellMade, blank as no_reading}
+use Rattle.readings.specs.declared.reading.Reading.{Reading}
+use Rattle.planner.specs.Periods.{half_half, half_timed}
+use Rattle.planner.specs.Timing.{Positive, WellTimed, blank}
 use Rattle.planner.specs.declared.timing.Timing.{Timing}
-use Rattle.planner.specs.declared.timings.Timings.{Timings}
 
-pub positive_more : (rows : List Timing) (k : ℕ) (t : Timing) → k < length rows → ((j : ℕ) → j < k → 1 ≤ (get_or rows j blank).period) → 1 ≤ t.period → (j : ℕ) → j < k + 1 → 1 ≤ (get_or (set rows k t) j blank).period
-positive_more rows k t h before here =
-    below_more (λ j. 1 ≤ (get_or (set rows k t) j blank).period) k
-    (λ j l. let other : j ≢ k = omega arith in rw (get_or-set_other rows k j t blank other) (before j l))
-    (rw (get_or-set_same rows k t blank h) here)
+-- one row more
+pub positive_more : (ts : List Timing) (t : Timing) → Positive ts → 1 ≤ t.period → Positive (ts ++ t ∷ [])
+positive_more ts t before here k h =
+    elim (cases_lt k (length ts)) [
+      | inl less ↦ rw (get_or_append_left ts (t ∷ []) blank k less) (before k less)
+      | inr more ↦
+          let n = length-append ts (t ∷ []) in
+          let same : length ts ≡ k = omega arith in
+          rw (get_or_at ts t [] blank k same) here
+    ]
 
-pub well_timed : (t : Timings) → WellTimed (timings_of t)
-well_timed t =
-    let n = length-take-le t.count t.rows (omega arith) in
-    let low = t.some in
-    let high = t.few in
+-- half of each validity is a period
+pub halves : (rs : List Reading) → WellMade rs → WellTimed (half_half rs)
+halves rs w =
+    let n = length-map rs half_timed in
     record {
-      some = omega arith;
-      few = omega arith;
-      positive = λ k h. let inside : k < t.count = omega arith in rw (get_or-take t.count t.rows k blank inside) (t.positive k inside);
+      some = let s = w.some in omega arith;
+      few = let f = w.few in omega arith;
+      positive = λ k h.
+          let i : k < length rs = omega arith in
+          let v = w.validities k i in
+          rw (get_or-map half_timed rs k no_reading blank i) (omega arith);
     }
+
+-- as many readings as a list may have all have a row
+pub all_halves : (rs : List Reading) (ts : List Timing) → WellMade rs → ts ≡ map half_timed (take 16 rs) → ts ≡ half_half rs
+all_halves rs ts w e = e ∙ ap (map half_timed) (take_all 16 rs w.few)

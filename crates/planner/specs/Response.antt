@@ -1,5 +1,5 @@
 -- Response times: how long a row's job takes when every row above is sampled with it.
-use Rattle.std.specs.Prelude.{◌≡◌, ℕ, zero, suc, ◌+◌, ◌*◌, ◌/◌, ◌%◌, ◌<◌, ◌≤◌, min, Bool, cond, List, [], ◌∷◌, Some, None, Option, nat_eq}
+use Rattle.std.specs.Prelude.{◌≡◌, ℕ, zero, suc, ◌+◌, ◌*◌, ◌/◌, ◌%◌, ◌<◌, ◌≤◌, min, Bool, if◌then◌else◌, List, [], ◌∷◌, Some, None, Option, nat_eq}
 use Rattle.planner.specs.declared.timing.Timing.{Timing}
 
 -- the quotient, and one more where something is left over
@@ -21,11 +21,11 @@ Settles above work r = r ≡ work + demand above r
 
 abbrev pub or_next : Option ℕ → Bool → ℕ → Option ℕ
 or_next (Some r) passes n = Some r
-or_next None passes n = cond passes (Some n) None
+or_next None passes n = if passes then Some n else None
 
 -- the least number up to n that passes a test
 abbrev pub least : (ℕ → Bool) → ℕ → Option ℕ
-least test zero = cond (test zero) (Some zero) None
+least test zero = if test zero then Some zero else None
 least test (suc n) = or_next (least test n) (test (suc n)) (suc n)
 
 -- D of a row: the least r that settles, if twice that is at most its validity

@@ -1,19 +1,16 @@
-ghost use Rattle.std.specs.Prelude.{◌≡◌, ℕ, ◌<◌, ◌≤◌, length, slice_index_or};
-ghost use Rattle.planner.specs.Timing.{blank};
+ghost use Rattle.planner.specs.Timing.{WellTimed};
+ghost use Rattle.rows.specs.Held.{rows_of};
 
 use crate::timing::Timing;
+use rows::rows::Rows;
 
 mod half_half;
 mod more_less;
-mod rows;
+mod read;
 
 // How each row of a list is refreshed, for 1 to 16 rows.
 #[derive(Clone, Copy)]
 pub struct Timings {
-    rows: [Timing; 16],
-    count: usize,
-    ghost long: { length rows ≡ 16 },
-    ghost some: { 1 ≤ count },
-    ghost few: { count ≤ 16 },
-    ghost positive: { (k : ℕ) → k < count → 1 ≤ (slice_index_or rows k blank).period },
+    rows: Rows<Timing>,
+    ghost law: { WellTimed (rows_of rows) },
 }

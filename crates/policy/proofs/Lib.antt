@@ -1,3 +1,2 @@
 mod Courses
-pub mod Sames
 pub mod Stepping

@@ -1,4 +1,3 @@
 pub mod Course
 pub mod Banks
 pub mod BankLaws
-pub mod Sames

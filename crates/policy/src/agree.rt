@@ -9,9 +9,7 @@ fn step_both<P: Policy, Q: Policy>(p: &mut P, q: &mut Q) -> bool
     ensures p_moved { P.Policy.position p.new ≡ P.Policy.next (P.Policy.position p.old) }
     ensures q_moved { Q.Policy.position q.new ≡ Q.Policy.next (Q.Policy.position q.old) }
 {
-    let (sampled, run) = p.step();
-    let (other_sampled, other_run) = q.step();
-    sampled == other_sampled && run == other_run
+    p.step() == q.step()
 }
 
 // Whether two policies, of one kind or of two, give the same answers for so many slots. Equal courses
@@ -20,6 +18,7 @@ pub fn same_answers<P: Policy, Q: Policy>(p: &P, q: &Q, slots: u16) -> bool
     ensures value { result ≡ agree_for (P.Policy.course (P.Policy.position p.now)) (Q.Policy.course (Q.Policy.position q.now)) slots }
     ensures equal { ((n : ℕ) → P.Policy.course (P.Policy.position p.now) n ≡ Q.Policy.course (Q.Policy.position q.now) n) → result ≡ true }
 {
+    // a `for` and no `all`, whose closure would change what it holds, so that nothing would be known after it
     let mut left = p.copy();
     let mut right = q.copy();
     for slot in 0..slots {

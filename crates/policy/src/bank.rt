@@ -9,6 +9,7 @@ use crate::policy::Policy;
 pub struct Bank<A, B> {
     pub first: A,
     pub second: B,
+    // a number and no enum: every number is taken, and two banks of different numbers never compare yes
     pub used: u8,
 }
 

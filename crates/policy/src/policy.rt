@@ -22,7 +22,8 @@ pub trait Policy: Drop + Sized {
     // what a comparison of two positions says: always the same
     ghost alike: { Position → Position → Bool };
 
-    // The answer for the present slot, and on to the next slot.
+    // The answer for the present slot, and on to the next slot. A tuple of numbers is the form that was asked for;
+    // 0 stands for no row here, in what the books tell, and on a line that a program writes.
     fn step(&mut self) -> (u16, u8)
         ensures answer { result ≡ course (position self.old) 0 }
         ensures moved { position self.new ≡ next (position self.old) };
@@ -31,7 +32,8 @@ pub trait Policy: Drop + Sized {
     fn same(&self, other: &Self) -> bool
         ensures { result ≡ alike (position self.now) (position other.now) };
 
-    // A second policy at the same position, and so with the same course.
+    // A second policy at the same position, and so with the same course. No `Clone`, which may fail and says
+    // what the whole value is.
     fn copy(&self) -> Self
         ensures { position result ≡ position self.now };
 

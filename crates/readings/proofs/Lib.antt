@@ -1,4 +1,2 @@
-pub mod Filled
 mod Kept
 mod Refused
-mod Rows

@@ -1,25 +1,21 @@
 -- From refusals, and from none, to what holds of the rows.
-use Rattle.std.proofs.Common.{◌≡◌, ℕ, zero, suc, ◌+◌, ◌-◌, ◌<◌, ◌≤◌, Bool, true, false, cond, not, ltb, List, [], ◌∷◌, length, get_or, take, replicate, is_some, Some, None, Option, sym, refl, ap, inl, inr, arith}
-use Rattle.std.specs.Option.{option_map}
+use Rattle.std.proofs.Common.{◌≡◌, ℕ, zero, suc, ◌+◌, ◌-◌, ◌<◌, ◌≤◌, Bool, true, false, cond, not, ltb, List, [], ◌∷◌, length, get_or, take, replicate, Some, None, Option, sym, refl, ap, inl, inr, arith}
 use Rattle.std.proofs.lemmas.Bool.{and_parts, leb-true, ltb-false, or_parts, not-true, eqb-false, cases_order}
 use Rattle.readings.specs.declared.reading.Proposal.{Proposal}
-use Rattle.readings.specs.declared.refusal.Refusal.{Refusal}
 use Rattle.readings.specs.Ranges.{all_blank, blank}
-use Rattle.readings.specs.Refusals.{Told, told}
+use Rattle.readings.specs.Refusals.{Told}
 use Rattle.readings.specs.Lists.{has_id, in_range, list_count, new_id, no_proposal, or_else, row_refusal, rows_refusal}
 
 -- one row more
 pub rows_more : (ps : List Proposal) (k n : ℕ) → k < n → rows_refusal ps k (n - k) ≡ or_else (row_refusal ps k) (rows_refusal ps (k + 1) (n - (k + 1)))
 rows_more ps k n h = ap (rows_refusal ps k) (let e : n - k ≡ suc (n - (k + 1)) = omega arith in e)
 
--- a row with a refusal ends the search, and one without goes on
-pub ends_here : (r : Option Refusal) (o p : Option Told) → is_some r ≡ true → option_map told r ≡ o → option_map told r ≡ or_else o p
-ends_here (Some e) o p h f = let g : o ≡ Some (told e) = sym f in rw g refl
-ends_here None o p h f = let z : ◌≡◌ {A = ℕ} 0 1 = cc in absurd (omega arith)
+-- a row that is refused ends the check, and one that passes goes on
+pub ends_here : (t : Told) (o p : Option Told) → Some t ≡ o → Some t ≡ or_else o p
+ends_here t o p h = let g : o ≡ Some t = sym h in rw g refl
 
-pub goes_on : (r : Option Refusal) (o p : Option Told) → is_some r ≡ false → option_map told r ≡ o → or_else o p ≡ p
-goes_on None o p h f = let g : o ≡ None = sym f in rw g refl
-goes_on (Some e) o p h f = let z : ◌≡◌ {A = ℕ} 0 1 = cc in absurd (omega arith)
+pub goes_on : (o p : Option Told) → None ≡ o → or_else o p ≡ p
+goes_on o p h = let g : o ≡ None = sym h in rw g refl
 
 -- without a refusal there is none at any row
 first_none : (o p : Option Told) → or_else o p ≡ None → (o ≡ None) × (p ≡ None)
@@ -35,6 +31,9 @@ none_at ps k (suc n) h j lo hi =
       | inr (inl less) ↦ none_at ps (k + 1) n both.1 j (omega arith) (omega arith)
       | inr (inr more) ↦ absurd (omega arith)
     ]
+
+pub unrefused : (ps : List Proposal) → None ≡ rows_refusal ps 0 (length ps) → (k : ℕ) → k < length ps → row_refusal ps k ≡ None
+unrefused ps e k h = none_at ps 0 (length ps) (sym e) k (omega arith) (omega arith)
 
 -- what a row without a refusal holds
 pub record Sound (ps : List Proposal) (k : ℕ) : Type 0 where

@@ -57,7 +57,7 @@ pub enum Refusal {
 }
 
 impl Refusal {
-    // The number of a refusal, 1 to 25.
+    // The number of a refusal, 1 to 25. No `From`: the number is one part of what a refusal tells.
     pub fn number(&self) -> u8
         ensures { result ≡ number self.now }
     {

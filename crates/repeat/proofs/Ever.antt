@@ -1,10 +1,8 @@
 -- After a repeat, what held up to it holds ever after.
-use Rattle.std.proofs.Common.{◌≡◌, ℕ, zero, suc, ◌+◌, ◌-◌, ◌<◌, Bool, true, None, Option, sym, ap, ◌∙◌, subst, inl, inr, add-zero, add-suc, arith}
+use Rattle.std.proofs.Common.{◌≡◌, ℕ, zero, suc, ◌+◌, ◌-◌, ◌<◌, true, None, sym, ap, ◌∙◌, subst, inl, inr, add-zero, add-suc, arith}
 use Rattle.std.proofs.lemmas.Bool.{cases_lt}
 use Rattle.repeat.specs.Marks.{after, mark_of}
-use Rattle.repeat.specs.Finds.{Finds, IfRepeat, RepeatFound}
-use Rattle.repeat.specs.declared.found.Found.{Found}
-use Rattle.repeat.specs.declared.found.Found.TheVariants.{Fault, Nowhere, Repeat}
+use Rattle.repeat.specs.Finds.{RepeatFound, Stepping}
 
 -- n steps on from where a steps lead
 pub after_plus : {S : Type 0} (next : S → S) (a n : ℕ) (s : S) → after next (a + n) s ≡ after next n (after next a s)
@@ -12,6 +10,7 @@ after_plus next a zero s = rw add-zero
 after_plus next a (suc n) s = rw add-suc (ap next (after_plus next a n s))
 
 module _ (P : ℕ → Type 0) (m t : ℕ) (below : m < t) (over : (k : ℕ) → P (m + k) → P (t + k)) (held : (n : ℕ) → n < t → P n) where
+  -- P holds of every number below b
   under : (b n : ℕ) → n < b → P n
   under zero n h = absurd (omega arith)
   under (suc b) n h =
@@ -35,15 +34,9 @@ module _ {S A : Type 0} (shows : S → A) (next : S → S) (s : S) (m t : ℕ) (
   pub ever_shown : m < t → (P : A → Type 0) → ((n : ℕ) → n < t → P (shows (after next n s))) → (n : ℕ) → P (shows (after next n s))
   ever_shown below P held = ever (λ n. P (shows (after next n s))) m t below (λ k. subst P (sym (shown_again k))) held
 
-module _ {S F : Type 0} (fault : S → Option F) (next : S → S) (alike : S → S → Bool) (lasting : (s t : S) → alike s t ≡ true → (n : ℕ) → fault (after next n s) ≡ fault (after next n t)) (s : S) (limit : ℕ) where
+module _ {S F : Type 0} (steps : Stepping S F) (lasting : (s t : S) → steps.alike s t ≡ true → (n : ℕ) → steps.fault (after steps.next n s) ≡ steps.fault (after steps.next n t)) (s : S) (limit : ℕ) where
   -- after a repeat no step, however far ahead, meets a fault
-  pub ever_calm : (mark instant : ℕ) → RepeatFound fault next alike s limit mark instant → (n : ℕ) → fault (after next n s) ≡ None
+  pub ever_calm : (mark instant : ℕ) → RepeatFound steps s limit mark instant → (n : ℕ) → steps.fault (after steps.next n s) ≡ None
   ever_calm mark instant f =
       let below : mark_of instant < instant = omega arith in
-      ever_shown fault next s (mark_of instant) instant (lasting _ _ f.repeats) below (λ x. x ≡ None) f.calm
-
-  -- the same of whatever a search finds
-  pub ever_found : (found : Found F) → Finds fault next alike s limit found → IfRepeat found ((n : ℕ) → fault (after next n s) ≡ None)
-  ever_found (Repeat mark instant) f = ever_calm mark instant f
-  ever_found (Fault slot met) f = tt
-  ever_found Nowhere f = tt
+      ever_shown steps.fault steps.next s (mark_of instant) instant (lasting _ _ f.repeats) below (λ x. x ≡ None) f.calm

@@ -1,59 +1,55 @@
 -- The search as a function that can be computed, and that it finds what a search has to find.
-use Rattle.std.proofs.Common.{◌≡◌, ℕ, zero, suc, ◌+◌, Bool, true, false, cond, Some, None, Option, refl, arith}
-use Rattle.repeat.proofs.Turning.{UnderWay, ended, nowhere, onward}
-use Rattle.repeat.specs.Finds.{Finds}
-use Rattle.repeat.specs.Marks.{is_next_mark, next_mark}
-use Rattle.repeat.specs.Turns.{Turn}
-use Rattle.repeat.specs.declared.found.Found.{Found}
-use Rattle.repeat.specs.declared.found.Found.TheVariants.{Fault, Nowhere, Repeat}
+use Rattle.std.proofs.Common.{◌≡◌, ℕ, zero, suc, ◌+◌, Bool, true, false, Some, None, Ok, Err, Option, Result, refl, arith}
+use Rattle.repeat.proofs.Turning.{UnderWay, begins, fault_found, nowhere, onward, repeat_found}
+use Rattle.repeat.specs.Finds.{Finds, Stepping}
+use Rattle.repeat.specs.Turns.{Turn, after_turn, search_from}
+use Rattle.repeat.specs.declared.found.NoRepeat.{NoRepeat}
+use Rattle.repeat.specs.declared.found.NoRepeat.TheVariants.{Fault, Nowhere}
+use Rattle.repeat.specs.declared.found.Repeat.{Repeat}
+use Rattle.repeat.specs.declared.search.Search.{Search}
 
--- how a turn ends the search, if it does, by its fault and its comparison
-abbrev pub turn_end : {F : Type 0} → Option F → Bool → (slot mark : ℕ) → Option (Found F)
-turn_end (Some met) again slot mark = Some (Fault slot met)
-turn_end None true slot mark = Some (Repeat mark (slot + 1))
-turn_end None false slot mark = None
+-- how a turn ends, by its fault and its comparison
+abbrev pub turn_end : {F : Type 0} → Option F → Bool → (slot mark : ℕ) → Result (Option Repeat) (NoRepeat F)
+turn_end (Some met) again slot mark = Err (Fault slot met)
+turn_end None true slot mark = Ok (Some (record { mark = mark; instant = slot + 1 }))
+turn_end None false slot mark = Ok None
 
-module _ {S F : Type 0} (fault : S → Option F) (next : S → S) (alike : S → S → Bool) where
-  -- the search from a slot on, with so many slots left, where `kept` is the state at the mark
-  unfoldable pub look : (left slot mark : ℕ) (kept here : S) → Found F
-  look zero slot mark kept here = Nowhere
-  look (suc left) slot mark kept here =
-      let to = next here in
-      elim (turn_end (fault here) (alike to kept) slot mark) [
-        | Some end ↦ end
-        | None ↦ look left (slot + 1) (next_mark mark (slot + 1)) (cond (is_next_mark mark (slot + 1)) to kept) to
+module _ {S F : Type 0} (steps : Stepping S F) where
+  -- the search from a slot on, with so many slots left
+  unfoldable pub look : (left slot : ℕ) → Search S → Result Repeat (NoRepeat F)
+  look zero slot x = Err Nowhere
+  look (suc left) slot x =
+      let to = after_turn steps.next slot x in
+      elim (turn_end (steps.fault x.here) (steps.alike to.here x.kept) slot x.mark) [
+        | Ok (Some found) ↦ Ok found
+        | Ok None ↦ look left (slot + 1) to
+        | Err end ↦ Err end
       ]
 
-  turn_is : (here : S) (slot mark : ℕ) (kept : S) (met : Option F) (again : Bool) → fault here ≡ met → alike (next here) kept ≡ again
-      → Turn fault next alike here slot mark kept (turn_end met again slot mark)
-  turn_is here slot mark kept (Some f) again e same = (e, refl)
-  turn_is here slot mark kept None true e same = (e, same, refl, refl)
-  turn_is here slot mark kept None false e same = (e, same)
+  -- and so a turn ends
+  turn_is : (slot : ℕ) (x : Search S) (met : Option F) (again : Bool) → steps.fault x.here ≡ met → steps.alike (steps.next x.here) x.kept ≡ again
+      → Turn steps slot x (turn_end met again slot x.mark)
+  turn_is slot x (Some f) again e same = (e, refl)
+  turn_is slot x None true e same = (e, same, refl)
+  turn_is slot x None false e same = (e, same)
 
   module _ (s : S) (limit : ℕ) where
     -- from any slot of a search under way
-    look_goes : (left slot mark : ℕ) (kept here : S) → slot + left ≡ limit → UnderWay fault next alike s slot here mark kept
-        → Finds fault next alike s limit (look left slot mark kept here)
+    look_goes : (left slot : ℕ) (x : Search S) → slot + left ≡ limit → UnderWay steps s slot x → Finds steps s limit (look left slot x)
     unfolding look
-    look_goes zero slot mark kept here e w = nowhere fault next alike s slot here mark kept w limit (omega arith)
-    look_goes (suc left) slot mark kept here e w =
-        let to = next here in
-        let rest = look_goes left (slot + 1) (next_mark mark (slot + 1)) (cond (is_next_mark mark (slot + 1)) to kept) to (omega arith) in
-        (elim (turn_end (fault here) (alike (next here) kept) slot mark) as (λ (o : Option (Found F)). Turn fault next alike here slot mark kept o → Finds fault next alike s limit (elim o [
-          | Some end ↦ end
-          | None ↦ look left (slot + 1) (next_mark mark (slot + 1)) (cond (is_next_mark mark (slot + 1)) to kept) to
+    look_goes zero slot x e w = nowhere steps s slot x w limit (omega arith)
+    look_goes (suc left) slot x e w =
+        let to : Search S = after_turn steps.next slot x in
+        (elim (turn_end (steps.fault x.here) (steps.alike to.here x.kept) slot x.mark) as (λ (r : Result (Option Repeat) (NoRepeat F)). Turn steps slot x r → Finds steps s limit (elim r [
+          | Ok (Some found) ↦ Ok found
+          | Ok None ↦ look left (slot + 1) to
+          | Err end ↦ Err end
         ])) [
-          | Some end ↦ λ t. ended fault next alike s slot here mark kept w limit end (omega arith) t
-          | None ↦ λ t. rest (onward fault next alike s slot here mark kept w to _ _ t refl refl refl)
-        ]) (turn_is here slot mark kept (fault here) (alike (next here) kept) refl refl)
+          | Ok (Some found) ↦ λ t. repeat_found steps s slot x w limit found (omega arith) t
+          | Ok None ↦ λ t. look_goes left (slot + 1) to (omega arith) (onward steps s slot x w to t refl)
+          | Err end ↦ λ t. fault_found steps s slot x w limit end (omega arith) t
+        ]) (turn_is slot x (steps.fault x.here) (steps.alike to.here x.kept) refl refl)
 
     -- from the start
-    pub look_finds : Finds fault next alike s limit (look limit 0 0 s s)
-    look_finds =
-        look_goes limit 0 0 s s (omega arith) (record {
-          stands = refl;
-          mark_is = refl;
-          kept_is = refl;
-          calm = λ u h. absurd (omega arith);
-          unrepeated = λ t h upto. absurd (omega arith);
-        })
+    pub look_finds : Finds steps s limit (look limit 0 (search_from s))
+    look_finds = look_goes limit 0 (search_from s) (omega arith) (begins steps s)

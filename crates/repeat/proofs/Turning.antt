@@ -1,40 +1,59 @@
 -- A search under way, turn by turn.
-use Rattle.std.proofs.Common.{◌≡◌, ℕ, ◌+◌, ◌<◌, ◌≤◌, Bool, true, false, cond, Some, None, Option, sym, ap, ◌∙◌, inl, inr, add-one, arith, below_more}
+use Rattle.std.proofs.Common.{◌≡◌, ℕ, ◌+◌, ◌<◌, ◌≤◌, Bool, true, false, Some, None, Option, Ok, Err, sym, refl, ap, ◌∙◌, subst, inl, inr, add-one, arith, below_more}
 use Rattle.std.proofs.lemmas.Bool.{both_ways, cases_lt}
+use Rattle.std.specs.Prelude.{if◌then◌else◌}
 use Rattle.repeat.proofs.Marks.{largest}
-use Rattle.repeat.specs.Finds.{Calm, Finds, Unrepeated}
-use Rattle.repeat.specs.Marks.{after, is_next_mark, mark_of, next_mark}
-use Rattle.repeat.specs.Turns.{Turn}
-use Rattle.repeat.specs.declared.found.Found.{Found}
-use Rattle.repeat.specs.declared.found.Found.TheVariants.{Fault, Nowhere, Repeat}
+use Rattle.repeat.specs.Finds.{Calm, Finds, Stepping, Unrepeated}
+use Rattle.repeat.specs.Marks.{after, is_next_mark, mark_of}
+use Rattle.repeat.specs.Turns.{Turn, after_turn, search_from}
+use Rattle.repeat.specs.declared.found.NoRepeat.{NoRepeat}
+use Rattle.repeat.specs.declared.found.NoRepeat.TheVariants.{Fault, Nowhere}
+use Rattle.repeat.specs.declared.found.Repeat.{Repeat}
+use Rattle.repeat.specs.declared.search.Search.{Search}
 
-module _ {S F : Type 0} (fault : S → Option F) (next : S → S) (alike : S → S → Bool) (s : S) where
+module _ {S F : Type 0} (steps : Stepping S F) (s : S) where
   -- before the step of a slot: no fault and no repeat so far, and the mark is the next instant's
-  pub record UnderWay (slot : ℕ) (here : S) (mark : ℕ) (kept : S) : Type 0 where
-    pub stands : here ≡ after next slot s
-    pub mark_is : mark ≡ mark_of (slot + 1)
-    pub kept_is : kept ≡ after next mark s
-    pub calm : Calm fault next s slot
-    pub unrepeated : Unrepeated next alike s slot
+  pub record UnderWay (slot : ℕ) (x : Search S) : Type 0 where
+    pub stands : x.here ≡ after steps.next slot s
+    pub mark_is : x.mark ≡ mark_of (slot + 1)
+    pub kept_is : x.kept ≡ after steps.next x.mark s
+    pub calm : Calm steps s slot
+    pub unrepeated : Unrepeated steps s slot
+
+  -- so a search begins
+  pub begins : UnderWay 0 (search_from s)
+  begins =
+      record {
+        stands = refl;
+        mark_is = refl;
+        kept_is = refl;
+        calm = λ u h. absurd (omega arith);
+        unrepeated = λ t h upto. absurd (omega arith);
+      }
 
   -- what a turn in that slot makes of it
-  module _ (slot : ℕ) (here : S) (mark : ℕ) (kept : S) (w : UnderWay slot here mark kept) where
-    fault_here : (o : Option F) → fault here ≡ o → fault (after next slot s) ≡ o
-    fault_here o e = ap fault (sym w.stands) ∙ e
+  module _ (slot : ℕ) (x : Search S) (w : UnderWay slot x) where
+    -- the fault that the step of the slot meets, if any
+    fault_here : (o : Option F) → steps.fault x.here ≡ o → steps.fault (after steps.next slot s) ≡ o
+    fault_here o e = ap steps.fault (sym w.stands) ∙ e
 
-    calm_more : fault here ≡ None → Calm fault next s (slot + 1)
+    -- without one, the steps so far meet none
+    calm_more : steps.fault x.here ≡ None → Calm steps s (slot + 1)
     calm_more e = below_more _ slot w.calm (fault_here None e)
 
-    next_stands : next here ≡ after next (slot + 1) s
-    next_stands = rw add-one (ap next w.stands)
+    -- where the step leads is the state at the next instant
+    next_stands : steps.next x.here ≡ after steps.next (slot + 1) s
+    next_stands = rw add-one (ap steps.next w.stands)
 
-    compared : (b : Bool) → alike (next here) kept ≡ b → alike (after next (slot + 1) s) (after next (mark_of (slot + 1)) s) ≡ b
+    -- and it is compared with the state at that instant's mark
+    compared : (b : Bool) → steps.alike (steps.next x.here) x.kept ≡ b → steps.alike (after steps.next (slot + 1) s) (after steps.next (mark_of (slot + 1)) s) ≡ b
     compared b e =
         let there = next_stands in
-        let mark_there : kept ≡ after next (mark_of (slot + 1)) s = w.kept_is ∙ ap (λ (n : ℕ). after next n s) w.mark_is in
+        let mark_there : x.kept ≡ after steps.next (mark_of (slot + 1)) s = w.kept_is ∙ ap (λ (n : ℕ). after steps.next n s) w.mark_is in
         cc
 
-    unrepeated_more : alike (next here) kept ≡ false → Unrepeated next alike s (slot + 1)
+    -- where they compare no, nothing repeats so far
+    unrepeated_more : steps.alike (steps.next x.here) x.kept ≡ false → Unrepeated steps s (slot + 1)
     unrepeated_more e t h upto again =
         elim (cases_lt slot t) [
           | inl more ↦
@@ -43,40 +62,44 @@ module _ {S F : Type 0} (fault : S → Option F) (next : S → S) (alike : S →
           | inr less ↦ w.unrepeated t h less again
         ]
 
-    -- what ends the search in a turn is what it finds
-    pub ended : (limit : ℕ) (end : Found F) → slot < limit → Turn fault next alike here slot mark kept (Some end) → Finds fault next alike s limit end
-    ended limit (Repeat m t) h (calm, same, e, f) =
-        let mark_there : m ≡ mark_of t = e ∙ w.mark_is ∙ ap mark_of (sym f) in
+    -- a repeat that a turn ends with is what the search finds
+    pub repeat_found : (limit : ℕ) (found : Repeat) → slot < limit → Turn steps slot x (Ok (Some found)) → Finds steps s limit (Ok found)
+    repeat_found limit found h (calm, same, is) =
+        let t : found.instant ≡ slot + 1 = ap (λ (r : Repeat). r.instant) is in
+        let m : found.mark ≡ mark_of (slot + 1) = ap (λ (r : Repeat). r.mark) is ∙ w.mark_is in
+        let below = (largest (slot + 1) (omega arith)).below in
         record {
           from_one = omega arith;
           within = omega arith;
-          mark_is = mark_there;
-          below = omega (arith, (largest t (omega arith)).below);
-          repeats = rw f (compared true same);
-          calm = rw f (calm_more calm);
+          mark_is = rw t m;
+          below = omega arith;
+          repeats = rw t (compared true same);
+          calm = rw t (calm_more calm);
           first = λ u g less. w.unrepeated u g (omega arith);
         }
-    ended limit (Fault t met) h (meets, f) =
+
+    -- and so is a fault
+    pub fault_found : (limit : ℕ) (end : NoRepeat F) → slot < limit → Turn steps slot x (Err end) → Finds steps s limit (Err end)
+    fault_found limit (Fault t met) h (meets, is) =
         record {
           within = omega arith;
-          meets = rw f (fault_here (Some met) meets);
-          calm = rw f w.calm;
-          unrepeated = rw f w.unrepeated;
+          meets = rw is (fault_here (Some met) meets);
+          calm = rw is w.calm;
+          unrepeated = rw is w.unrepeated;
         }
-    ended limit Nowhere h none = absurd none
+    fault_found limit Nowhere h none = absurd none
 
     -- a search that comes to the limit finds nothing
-    pub nowhere : (limit : ℕ) → limit ≤ slot → Finds fault next alike s limit Nowhere
+    pub nowhere : (limit : ℕ) → limit ≤ slot → Finds steps s limit (Err Nowhere)
     nowhere limit h = record { calm = λ u less. w.calm u (omega arith); unrepeated = λ t g upto. w.unrepeated t g (omega arith) }
 
     -- a turn that does not end the search leads to the next slot
-    pub onward : (to : S) (mark' : ℕ) (kept' : S) → Turn fault next alike here slot mark kept None → to ≡ next here → mark' ≡ next_mark mark (slot + 1) → kept' ≡ cond (is_next_mark mark (slot + 1)) to kept → UnderWay (slot + 1) to mark' kept'
-    onward to mark' kept' (calm, other) moved e f =
-        let there : to ≡ after next (slot + 1) s = moved ∙ next_stands in
-        record {
-          stands = there;
-          mark_is = e ∙ rw (add-one (slot + 1), ← w.mark_is);
-          kept_is = f ∙ (elim (is_next_mark mark (slot + 1)) as (λ (b : Bool). cond b to kept ≡ after next (cond b (slot + 1) mark) s) [ true ↦ there | false ↦ w.kept_is ]) ∙ ap (λ (n : ℕ). after next n s) (sym e);
+    pub onward : (to : Search S) → Turn steps slot x (Ok None) → to ≡ after_turn steps.next slot x → UnderWay (slot + 1) to
+    onward to (calm, other) is =
+        subst (UnderWay (slot + 1)) (sym is) (record {
+          stands = next_stands;
+          mark_is = rw (add-one (slot + 1), ← w.mark_is);
+          kept_is = elim (is_next_mark x.mark (slot + 1)) as (λ (b : Bool). (if b then steps.next x.here else x.kept) ≡ after steps.next (if b then slot + 1 else x.mark) s) [ true ↦ next_stands | false ↦ w.kept_is ];
           calm = calm_more calm;
           unrepeated = unrepeated_more other;
-        }
+        })

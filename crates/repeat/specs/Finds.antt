@@ -1,52 +1,59 @@
 -- What a search from a state finds.
-use Rattle.std.specs.Prelude.{◌≡◌, ℕ, ◌<◌, ◌≤◌, Bool, true, Some, None, Option}
+use Rattle.std.specs.Prelude.{◌≡◌, ℕ, ◌<◌, ◌≤◌, Bool, true, Some, None, Option, Ok, Err, Result}
 use Rattle.repeat.specs.Marks.{after, mark_of}
-use Rattle.repeat.specs.declared.found.Found.{Found}
-use Rattle.repeat.specs.declared.found.Found.TheVariants.{Repeat, Fault, Nowhere}
+use Rattle.repeat.specs.declared.found.NoRepeat.{NoRepeat}
+use Rattle.repeat.specs.declared.found.NoRepeat.TheVariants.{Fault, Nowhere}
+use Rattle.repeat.specs.declared.found.Repeat.{Repeat}
 
--- the first n steps from s meet no fault
-abbrev pub Calm : {S F : Type 0} → (S → Option F) → (S → S) → S → ℕ → Type 0
-Calm fault next s n = (u : ℕ) → u < n → fault (after next u s) ≡ None
+-- what stepping means, over its states
+pub record Stepping (S F : Type 0) : Type 0 where
+  -- the fault that a step from a state meets, if any
+  pub fault : S → Option F
+  -- where a step leads from a state, unless it meets a fault
+  pub next : S → S
+  -- what a comparison of two states says
+  pub alike : S → S → Bool
 
--- the state at instant t compares yes with the state at t's mark
-abbrev pub Repeats : {S : Type 0} → (S → S) → (S → S → Bool) → S → ℕ → Type 0
-Repeats next alike s t = alike (after next t s) (after next (mark_of t) s) ≡ true
+-- steps from state s
+module _ {S F : Type 0} (steps : Stepping S F) (s : S) where
+  -- the first n steps meet no fault
+  abbrev pub Calm : ℕ → Type 0
+  Calm n = (u : ℕ) → u < n → steps.fault (after steps.next u s) ≡ None
 
--- no instant from 1 to n repeats
-abbrev pub Unrepeated : {S : Type 0} → (S → S) → (S → S → Bool) → S → ℕ → Type 0
-Unrepeated next alike s n = (t : ℕ) → 0 < t → t ≤ n → Repeats next alike s t → ⊥
+  -- the state at instant t compares yes with the state at t's mark
+  abbrev pub Repeats : ℕ → Type 0
+  Repeats t = steps.alike (after steps.next t s) (after steps.next (mark_of t) s) ≡ true
 
-module _ {S F : Type 0} (fault : S → Option F) (next : S → S) (alike : S → S → Bool) (s : S) (limit : ℕ) where
-  -- the first instant that repeats, and its mark
-  pub record RepeatFound (mark instant : ℕ) : Type 0 where
-    pub from_one : 0 < instant
-    pub within : instant ≤ limit
-    pub mark_is : mark ≡ mark_of instant
-    pub below : mark < instant
-    pub repeats : Repeats next alike s instant
-    pub calm : Calm fault next s instant
-    pub first : (t : ℕ) → 0 < t → t < instant → Repeats next alike s t → ⊥
+  -- no instant from 1 to n repeats
+  abbrev pub Unrepeated : ℕ → Type 0
+  Unrepeated n = (t : ℕ) → 0 < t → t ≤ n → Repeats t → ⊥
 
-  -- the first fault, before which nothing repeats
-  pub record FaultFound (slot : ℕ) (met : F) : Type 0 where
-    pub within : slot < limit
-    pub meets : fault (after next slot s) ≡ Some met
-    pub calm : Calm fault next s slot
-    pub unrepeated : Unrepeated next alike s slot
+  -- a search up to a limit
+  module _ (limit : ℕ) where
+    -- the first instant that repeats, and its mark
+    pub record RepeatFound (mark instant : ℕ) : Type 0 where
+      pub from_one : 0 < instant
+      pub within : instant ≤ limit
+      pub mark_is : mark ≡ mark_of instant
+      pub below : mark < instant
+      pub repeats : Repeats instant
+      pub calm : Calm instant
+      pub first : (t : ℕ) → 0 < t → t < instant → Repeats t → ⊥
 
-  -- neither a fault nor a repeat up to the limit
-  pub record NowhereFound : Type 0 where
-    pub calm : Calm fault next s limit
-    pub unrepeated : Unrepeated next alike s limit
+    -- the first fault, before which nothing repeats
+    pub record FaultFound (slot : ℕ) (met : F) : Type 0 where
+      pub within : slot < limit
+      pub meets : steps.fault (after steps.next slot s) ≡ Some met
+      pub calm : Calm slot
+      pub unrepeated : Unrepeated slot
 
-  -- the answer of a search
-  abbrev pub Finds : Found F → Type 0
-  Finds (Repeat mark instant) = RepeatFound mark instant
-  Finds (Fault slot met) = FaultFound slot met
-  Finds Nowhere = NowhereFound
+    -- neither a fault nor a repeat up to the limit
+    pub record NowhereFound : Type 0 where
+      pub calm : Calm limit
+      pub unrepeated : Unrepeated limit
 
--- P, if the search ended with a repeat
-abbrev pub IfRepeat : {F : Type 0} → Found F → Type 0 → Type 0
-IfRepeat (Repeat mark instant) P = P
-IfRepeat (Fault slot met) P = Unit {0}
-IfRepeat Nowhere P = Unit {0}
+    -- the answer of a search
+    abbrev pub Finds : Result Repeat (NoRepeat F) → Type 0
+    Finds (Ok found) = RepeatFound found.mark found.instant
+    Finds (Err (Fault slot met)) = FaultFound slot met
+    Finds (Err Nowhere) = NowhereFound

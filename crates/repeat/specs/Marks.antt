@@ -1,6 +1,6 @@
 -- The instants of a stepping thing, and the mark of each: the largest number below it of the form
 -- 2^k - 1, so one of 0, 1, 3, 7, ...
-use Rattle.std.specs.Prelude.{◌≡◌, ℕ, zero, suc, ◌+◌, ◌*◌, ◌^◌, ◌<◌, ◌≤◌, Bool, cond, ◌==◌}
+use Rattle.std.specs.Prelude.{◌≡◌, ℕ, zero, suc, ◌+◌, ◌*◌, ◌^◌, ◌<◌, ◌≤◌, Bool, if◌then◌else◌, ◌==◌}
 
 -- the state n steps on
 abbrev pub after : {S : Type 0} → (S → S) → ℕ → S → S
@@ -13,7 +13,7 @@ is_next_mark m t = t == 2 * m + 1
 
 -- the mark of the instant after t, where m is the mark of t: t if it follows m, and otherwise still m
 abbrev pub next_mark : ℕ → ℕ → ℕ
-next_mark m t = cond (is_next_mark m t) t m
+next_mark m t = if is_next_mark m t then t else m
 
 -- the mark of an instant, from instant to instant: that of instant 1 is 0
 abbrev pub mark_of : ℕ → ℕ

@@ -1,10 +1,15 @@
-// How a search ends.
-#[derive(Clone, Copy, Drop)]
-pub enum Found<F> {
-    // the state at `instant` compares yes with the one at `mark`, its mark
-    Repeat { mark: u16, instant: u16 },
+// A search's repeat: the state at `instant` compares yes with the one at `mark`, its mark.
+#[derive(Clone, Copy, PartialEq, Eq, Debug)]
+pub struct Repeat {
+    pub mark: u16,
+    pub instant: u16,
+}
+
+// Why a search has no repeat.
+#[derive(Clone, Copy, Drop, PartialEq, Eq, Debug)]
+pub enum NoRepeat<F> {
     // the first fault, met in this slot
     Fault { slot: u16, fault: F },
-    // neither of them up to the limit
+    // neither a fault nor a repeat up to the limit
     Nowhere,
 }

@@ -1,4 +1,4 @@
-ghost use Rattle.std.specs.Prelude.{◌≡◌, ℕ, Bool, true, None, Option as Opt};
+ghost use Rattle.std.specs.Prelude.{◌≡◌, ℕ, Bool, true, None, Some, Option as Opt, OnOk, IfErr};
 ghost use Rattle.repeat.specs.Marks.{after};
 
 // A stepping thing stands in a state. A step either meets a fault or moves to the next state, and two
@@ -21,16 +21,17 @@ pub trait Stepper: Drop + Sized {
     // what a comparison of two states says: always the same
     ghost alike: { State → State → Bool };
 
-    // The fault that is met, or on to the next state.
-    fn step(&mut self) -> Option<Self::Fault>
-        ensures met { result ≡ fault (state self.old) }
-        ensures moved { result ≡ None → state self.new ≡ next (state self.old) };
+    // On to the next state, or the fault that is met.
+    fn step(&mut self) -> Result<(), Self::Fault>
+        ensures calm { OnOk result (fault (state self.old) ≡ None) }
+        ensures moved { OnOk result (state self.new ≡ next (state self.old)) }
+        ensures met { IfErr result (λ met. fault (state self.old) ≡ Some met) };
 
     // Whether this state compares with the other: a yes means the same faults ever after.
     fn same(&self, other: &Self) -> bool
         ensures { result ≡ alike (state self.now) (state other.now) };
 
-    // A second stepping thing in the same state.
+    // A second stepping thing in the same state. No `Clone`, which may fail and says what the whole value is.
     fn copy(&self) -> Self
         ensures { state result ≡ state self.now };
 

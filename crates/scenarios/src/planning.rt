@@ -8,40 +8,28 @@ use readings::reading::Proposal;
 use readings::refusal::Refusal;
 use std::test::Fail;
 
-// Three readings of these work lengths and validities.
-fn list_of(works: [u32; 3], validities: [u32; 3]) -> Result<Readings, Refusal> {
-    Readings::new(&[
-        Proposal {
-            id: 7,
-            work: works[0],
-            validity: validities[0],
-        },
-        Proposal {
-            id: 8,
-            work: works[1],
-            validity: validities[1],
-        },
-        Proposal {
-            id: 9,
-            work: works[2],
-            validity: validities[2],
-        },
-    ])
+// Readings 7, 8 and 9, each with its work length and validity.
+fn list_of(rows: [(u32, u32); 3]) -> Result<Readings, Refusal> {
+    let [first, second, third] = rows;
+    Readings::new(&[proposal(7, first), proposal(8, second), proposal(9, third)])
+}
+
+fn proposal(id: u32, (work, validity): (u32, u32)) -> Proposal {
+    Proposal { id, work, validity }
 }
 
 fn list_x() -> Result<Readings, Refusal> {
-    list_of([1, 2, 2], [5, 10, 20])
+    list_of([(1, 5), (2, 10), (2, 20)])
 }
 
 // Whether these are the periods of the rows.
 fn has_periods(timings: &Timings, expected: &[u16]) -> bool {
     let rows = timings.rows();
-    for (row, period) in rows.iter().zip(expected) {
-        if row.period != *period {
-            return false;
-        }
-    }
     rows.len() == expected.len()
+        && rows
+            .iter()
+            .zip(expected)
+            .all(|(row, period)| row.period == *period)
 }
 
 #[test]
@@ -54,7 +42,7 @@ fn half_half_halves_the_validity(rt: HostRuntime) -> Result<(), Fail> {
 #[test]
 fn more_less_leaves_the_response_time(rt: HostRuntime) -> Result<(), Fail> {
     assert!(rt; has_periods(&Timings::more_less(&list_x()?)?, &[4, 7, 14]));
-    let y = list_of([2, 2, 2], [8, 10, 12])?;
+    let y = list_of([(2, 8), (2, 10), (2, 12)])?;
     assert!(rt; has_periods(&Timings::more_less(&y)?, &[6, 6, 6]));
     Ok(())
 }
@@ -62,18 +50,7 @@ fn more_less_leaves_the_response_time(rt: HostRuntime) -> Result<(), Fail> {
 // The second row would need 7 of its 13 slots.
 #[test]
 fn more_less_refuses_a_late_response(rt: HostRuntime) -> Result<(), Fail> {
-    let z = Readings::new(&[
-        Proposal {
-            id: 1,
-            work: 2,
-            validity: 6,
-        },
-        Proposal {
-            id: 2,
-            work: 3,
-            validity: 13,
-        },
-    ])?;
+    let z = Readings::new(&[proposal(1, (2, 6)), proposal(2, (3, 13))])?;
     match Timings::more_less(&z) {
         Err(Refusal::Response { row }) => {
             assert_eq!(rt; row, 2);

@@ -1,13 +1,11 @@
 -- What a line is answered with, and what is written for it.
 use Rattle.std.specs.Prelude.{ℕ, List, ◌++◌, Some, None, codes, decimal, Option}
-use Rattle.readings.specs.Refusals.{Told, told}
+use Rattle.readings.specs.Refusals.{Told, refusal_of as told_of}
 use Rattle.script.specs.declared.reply.Reply.{Reply}
-use Rattle.script.specs.declared.reply.Reply.TheVariants.{Done, Refused}
 
 -- what a reply refuses with, if it does
 abbrev pub refusal_of : Reply → Option Told
-refusal_of Done = None
-refusal_of (Refused e) = Some (told e)
+refusal_of r = told_of r.0
 
 -- `ok`, or `no` and the refusal's number
 abbrev pub written : Option Told → List ℕ

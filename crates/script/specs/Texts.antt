@@ -1,5 +1,5 @@
 -- How a whole script is answered.
-use Rattle.std.specs.Prelude.{ℕ, cond, List, [], ◌∷◌, length, Some, Option, nat_le}
+use Rattle.std.specs.Prelude.{ℕ, if◌then◌else◌, List, [], ◌∷◌, length, Some, Option, nat_le}
 use Rattle.readings.specs.Refusals.{Told}
 use Rattle.lines.specs.Pieces.{pieces}
 use Rattle.script.specs.Turns.{State, at_first, turn}
@@ -17,4 +17,4 @@ answers_from s (line ∷ next ∷ rest) = (turn line s).0 ∷ answers_from (turn
 
 -- a text of at most 16,384 bytes is answered line by line; a longer one is met by one refusal
 abbrev pub answers : List ℕ → List (Option Told)
-answers text = cond (nat_le (length text) 16384) (answers_from at_first (pieces 10 text)) (Some (24, []) ∷ [])
+answers text = if nat_le (length text) 16384 then answers_from at_first (pieces 10 text) else Some (24, []) ∷ []

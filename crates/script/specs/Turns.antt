@@ -1,5 +1,5 @@
 -- What a line does: how it is answered, and the state that it leaves.
-use Rattle.std.specs.Prelude.{ℕ, ◌+◌, Bool, true, false, cond, ◌||◌, List, [], ◌∷◌, ◌++◌, Some, None, Ok, Err, Option, Result, ◌==◌, nat_le}
+use Rattle.std.specs.Prelude.{ℕ, ◌+◌, Bool, true, false, if◌then◌else◌, ◌||◌, List, [], ◌∷◌, ◌++◌, Some, None, Ok, Err, Option, Result, ◌==◌, nat_le}
 use Rattle.readings.specs.Refusals.{Told}
 use Rattle.readings.specs.declared.reading.Proposal.{Proposal}
 use Rattle.lines.specs.Words.{command_of}
@@ -35,15 +35,14 @@ not_a_line s = (Some (24, []), s)
 -- a plan begins, unless one is being written or two have begun
 abbrev pub begins : State → Turn
 begins s =
-    cond (s.writing || nat_le 2 s.begun) (not_a_line s)
-    (None, record { begun = s.begun + 1; writing = true; proposed = []; first = s.first; second = s.second })
+    if s.writing || nat_le 2 s.begun then not_a_line s
+    else (None, record { begun = s.begun + 1; writing = true; proposed = []; first = s.first; second = s.second })
 
 -- one reading more in the plan that is being written
 abbrev pub proposes : Proposal → State → Turn
 proposes p s =
-    cond s.writing
-    (None, record { begun = s.begun; writing = true; proposed = s.proposed ++ p ∷ []; first = s.first; second = s.second })
-    (not_a_line s)
+    if s.writing then (None, record { begun = s.begun; writing = true; proposed = s.proposed ++ p ∷ []; first = s.first; second = s.second })
+    else not_a_line s
 
 -- no plan is being written
 abbrev pub closed : State → State
@@ -56,8 +55,8 @@ keeps plan s =
       begun = s.begun;
       writing = s.writing;
       proposed = s.proposed;
-      first = cond (s.begun == 1) (Some plan) s.first;
-      second = cond (s.begun == 1) s.second (Some plan);
+      first = if s.begun == 1 then Some plan else s.first;
+      second = if s.begun == 1 then s.second else Some plan;
     }
 
 -- a plan has ended: ready where it was made, and not ready where it was refused
@@ -67,7 +66,7 @@ ended (Err t) s = (Some t, closed s)
 
 -- the plan that is being written ends
 abbrev pub ends : Planner → State → Turn
-ends planner s = cond s.writing (ended (planned s.proposed planner) s) (not_a_line s)
+ends planner s = if s.writing then ended (planned s.proposed planner) s else not_a_line s
 
 abbrev pub obeys : Command → State → Turn
 obeys Plan s = begins s

@@ -71,9 +71,5 @@ fn cut_short(rest: &[u8]) -> Option<Reply>
       | Some reply ↦ answers_last rest.now ≡ refusal_of reply ∷ []
     ] }
 {
-    if rest.is_empty() {
-        None
-    } else {
-        Some(Reply::Refused(Refusal::Line))
-    }
+    (!rest.is_empty()).then_some(Reply(Err(Refusal::Line)))
 }

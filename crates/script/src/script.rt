@@ -2,6 +2,7 @@ ghost use Rattle.script.specs.Plans.{plan_of};
 ghost use Rattle.script.specs.States.{NoRoom, state_of};
 ghost use Rattle.script.specs.Replies.{refusal_of};
 ghost use Rattle.script.specs.Turns.{at_first, begins, ends, keeps, proposes, turn};
+ghost use Rattle.readings.specs.Refusals.{refusal_of as told_of};
 ghost use Rattle.std.specs.Prelude.{◌≡◌, Ok, Err};
 
 use crate::plan::{Plan, Planner};
@@ -14,12 +15,11 @@ use std::alloc::{AllocError, Global};
 // A script between two of its lines.
 #[derive(Drop)]
 pub struct Script {
+    heap: Global,
     // how many plans have begun, at most two
     begun: u8,
-    // whether the last of them has not ended
-    writing: bool,
-    // its readings so far
-    proposed: Vec<Proposal>,
+    // the readings so far of the last of them, if it has not ended
+    proposed: Option<Vec<Proposal>>,
     // the plans that are ready
     first: Option<Plan>,
     second: Option<Plan>,
@@ -31,9 +31,9 @@ impl Script {
         ensures { state_of result ≡ at_first }
     {
         Script {
+            heap,
             begun: 0,
-            writing: false,
-            proposed: Vec::new(heap),
+            proposed: None,
             first: None,
             second: None,
         }
@@ -48,7 +48,7 @@ impl Script {
         ] }
     {
         match Command::of(line) {
-            Some(Command::Plan) => Ok(self.begin()),
+            Some(Command::Plan) => Ok(Reply(self.begin())),
             Some(Command::Reading { id, work, validity }) => {
                 let reading = Proposal {
                     id: u32::from(id),
@@ -57,23 +57,22 @@ impl Script {
                 };
                 self.propose(reading)
             }
-            Some(Command::Half) => Ok(self.finish(Planner::HalfHalf)),
-            Some(Command::More) => Ok(self.finish(Planner::MoreLess)),
-            None => Ok(Reply::Refused(Refusal::Line)),
+            Some(Command::Half) => Ok(Reply(self.finish(Planner::HalfHalf))),
+            Some(Command::More) => Ok(Reply(self.finish(Planner::MoreLess))),
+            None => Ok(Reply(Err(Refusal::Line))),
         }
     }
 
     // A plan begins.
-    fn begin(&mut self) -> Reply
-        ensures { (refusal_of result, state_of self.new) ≡ begins (state_of self.old) }
+    fn begin(&mut self) -> Result<(), Refusal>
+        ensures { (told_of result, state_of self.new) ≡ begins (state_of self.old) }
     {
-        if self.writing || self.begun >= 2 {
-            return Reply::Refused(Refusal::Line);
+        if self.proposed.is_some() || self.begun >= 2 {
+            return Err(Refusal::Line);
         }
         self.begun += 1;
-        self.writing = true;
-        self.proposed.clear();
-        Reply::Done
+        self.proposed = Some(Vec::new(self.heap));
+        Ok(())
     }
 
     // One reading more in the plan that is being written.
@@ -83,32 +82,21 @@ impl Script {
           | Err e ↦ (state_of self.new ≡ state_of self.old) × NoRoom self.old (proposes reading (state_of self.old))
         ] }
     {
-        if !self.writing {
-            return Ok(Reply::Refused(Refusal::Line));
-        }
-        match self.proposed.push(reading) {
-            Ok(()) => Ok(Reply::Done),
-            Err(_) => Err(AllocError),
-        }
+        let Some(proposed) = &mut self.proposed else {
+            return Ok(Reply(Err(Refusal::Line)));
+        };
+        proposed.push(reading)?;
+        Ok(Reply(Ok(())))
     }
 
     // The plan that is being written ends, and is ready if list and policy are made.
-    fn finish(&mut self, planner: Planner) -> Reply
-        ensures { (refusal_of result, state_of self.new) ≡ ends planner (state_of self.old) }
+    fn finish(&mut self, planner: Planner) -> Result<(), Refusal>
+        ensures { (told_of result, state_of self.new) ≡ ends planner (state_of self.old) }
     {
-        if !self.writing {
-            return Reply::Refused(Refusal::Line);
-        }
-        let made = Plan::new(self.proposed.as_slice(), planner);
-        self.writing = false;
-        self.proposed.clear();
-        match made {
-            Ok(plan) => {
-                self.keep(plan);
-                Reply::Done
-            }
-            Err(refusal) => Reply::Refused(refusal),
-        }
+        let proposed = self.proposed.take().ok_or(Refusal::Line)?;
+        let plan = Plan::new(proposed.as_slice(), planner)?;
+        self.keep(plan);
+        Ok(())
     }
 
     // The plan that began last is ready.

@@ -1,5 +1,5 @@
 -- The test for a crossing is exact.
-use Rattle.std.proofs.Common.{◌≡◌, ℕ, ◌+◌, ◌<◌, ◌≤◌, Bool, true, false, List, map, length, get_or, is_some, Some, None, Decides, Option, sym, refl, ap, ◌∙◌, subst, arith}
+use Rattle.std.proofs.Common.{◌≡◌, ℕ, ◌+◌, ◌<◌, ◌≤◌, Bool, true, false, List, map, length, get_or, is_some, Some, None, Decides, Option, sym, refl, ap, ◌∙◌, arith}
 use Rattle.std.proofs.lemmas.List.{get_or-map, length-map}
 use Rattle.std.proofs.lemmas.Bool.{both_ways, le-leb, leb-true}
 use Rattle.readings.specs.Ranges.{blank}
@@ -146,24 +146,3 @@ module _ (old : List Row) (new : List Reading) (c : Course) (finishes : List ℕ
     λ e. ((t.0 e).idle, keeps (t.0 e)),
     λ p. t.1 (record { idle = p.0; each = λ k h. tested k h (row_of old (get_or new k blank).id) refl p.1 }),
   )
-
--- what a test tells
-pub record Tells (old : List Row) (new : List Reading) (c : Course) (finishes : List ℕ) (r : Bool) : Type 0 where
-  pub test : Decides r (MayCross old new finishes)
-  pub exact : Accepts c (map come_on new) finishes → Decides r (Idle old × Keeps old new c)
-
-pub tells : (old : List Row) (new : List Reading) (c : Course) (finishes : List ℕ) (r : Bool) → Decides r (MayCross old new finishes) → Tells old new c finishes r
-tells old new c finishes r d = record { test = d; exact = λ a. exact old new c finishes a r d }
-
--- a reading that does not pass
-pub not_in_time : (old : List Row) (new items : List Reading) (finishes : List ℕ) (k : ℕ) → items ≡ new → k < length items
-    → false ≡ in_time (row_of old (get_or items k blank).id) (get_or items k blank) (get_or finishes k 0) → MayCross old new finishes → ⊥
-not_in_time old new items finishes k e h no' m =
-    let each = subst (λ (ds : List Reading). (j : ℕ) → j < length ds → in_time (row_of old (get_or ds j blank).id) (get_or ds j blank) (get_or finishes j 0) ≡ true) (sym e) m.each in
-    both_ways (in_time (row_of old (get_or items k blank).id) (get_or items k blank) (get_or finishes k 0)) (sym no') (each k h)
-
--- all readings pass
-pub all_in_time : (old : List Row) (new items : List Reading) (finishes : List ℕ) (k : ℕ) → items ≡ new → length items ≤ k → Idle old
-    → ((j : ℕ) → j < k → in_time (row_of old (get_or items j blank).id) (get_or items j blank) (get_or finishes j 0) ≡ true) → MayCross old new finishes
-all_in_time old new items finishes k e h idle each =
-    subst (λ (ds : List Reading). MayCross old ds finishes) e (record { idle = idle; each = λ j l. each j (omega arith) })

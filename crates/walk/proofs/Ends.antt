@@ -1,35 +1,49 @@
 -- How a search over a policy with its books ends is how a walk ends.
-use Rattle.std.proofs.Common.{◌≡◌, ℕ, ◌+◌, ◌-◌, true, List, [], sym, refl, ap, ◌∙◌, subst, inl, inr, arith}
+use Rattle.std.proofs.Common.{◌≡◌, ℕ, ◌+◌, ◌-◌, true, List, Ok, Err, IsErrAnd, MatchResult, Result, sym, refl, ap, ◌∙◌, subst, inl, inr, arith}
 use Rattle.std.proofs.lemmas.Bool.{and_from, and_parts}
-use Rattle.repeat.specs.Finds.{Finds}
+use Rattle.readings.specs.Refusals.{told}
+use Rattle.readings.specs.declared.refusal.Refusal.{Refusal}
+use Rattle.repeat.specs.Finds.{Finds, Stepping}
 use Rattle.repeat.specs.Finds as search
 use Rattle.repeat.specs.Marks.{after, mark_of}
-use Rattle.repeat.specs.declared.found.Found.{Found}
-use Rattle.repeat.specs.declared.found.Found.TheVariants.{Repeat, Nowhere}
-use Rattle.repeat.specs.declared.found.Found.TheVariants as found
-use Rattle.books.specs.Faults.{fault_told}
+use Rattle.repeat.specs.declared.found.NoRepeat.{NoRepeat}
+use Rattle.repeat.specs.declared.found.NoRepeat.TheVariants.{Nowhere}
+use Rattle.repeat.specs.declared.found.NoRepeat.TheVariants as end
+use Rattle.repeat.specs.declared.found.Repeat.{Repeat}
 use Rattle.books.specs.Rows.{same_rows}
 use Rattle.books.specs.Slots.{books_at, fault_at}
 use Rattle.books.specs.declared.fault.Fault.{Fault}
 use Rattle.books.specs.declared.row.Row.{Row}
 use Rattle.books.proofs.Sames.{rows_from, rows_to}
 use Rattle.walk.specs.Steps.{walk_alike, walk_fault, walk_next}
-use Rattle.walk.specs.Walks.{Kind, Outcome, Walks, granted, refused}
+use Rattle.walk.specs.Walks.{Kind, Outcome, Walks, end_told, granted, refused}
 use Rattle.walk.specs.Walks as walks
 use Rattle.walk.specs.Walking.{fault_is, walk_at}
 
+-- how a search over a policy with its books ends
+abbrev pub End : Type 0
+End = Result Repeat (NoRepeat Fault)
+
 -- what a walk answers when the search ends so
-abbrev pub as_outcome : Found Fault → Outcome
-as_outcome (Repeat m t) = granted m (t - m)
-as_outcome (found.Fault slot met) = refused (fault_told met slot)
-as_outcome Nowhere = refused (13, [])
+abbrev pub as_outcome : End → Outcome
+as_outcome (Ok found) = granted found.mark (found.instant - found.mark)
+as_outcome (Err end) = refused (end_told end)
+
+-- where an end without a repeat is turned into its refusal, that is what the walk answers
+pub refusal_told : (r : End) (q : Result Repeat Refusal) (d : Refusal) → MatchResult r (λ found. q ≡ Ok found) (λ end. IsErrAnd q (λ e. told e ≡ end_told end)) → q ≡ Err d → refused (told d) ≡ as_outcome r
+refusal_told (Ok found) q d turned is = cc
+refusal_told (Err end) q d turned is = ap refused (rw is at turned)
+
+-- what stepping a policy with its books means
+abbrev pub walk_steps : {Pos : Type 0} → Kind Pos → Stepping (Pos × List Row) Fault
+walk_steps kind = record { fault = walk_fault kind.course; next = walk_next kind.course kind.next; alike = walk_alike kind.alike }
 
 module _ {Pos : Type 0} (kind : Kind Pos) (onward : (p : Pos) (n : ℕ) → kind.course (kind.next p) n ≡ kind.course p (n + 1)) (p : Pos) (rs : List Row) where
   abbrev stands : ℕ → Pos × List Row
   stands n = after (walk_next kind.course kind.next) n (p, rs)
 
-  abbrev Ends : Found Fault → Type 0
-  Ends = Finds (walk_fault kind.course) (walk_next kind.course kind.next) (walk_alike kind.alike) (p, rs) 32767
+  abbrev Ends : End → Type 0
+  Ends = Finds (walk_steps kind) (p, rs) 32767
 
   compares : (t : ℕ) → walk_alike kind.alike (stands t) (stands (mark_of t)) ≡ walk_alike kind.alike (after kind.next t p, books_at (kind.course p) rs t) (after kind.next (mark_of t) p, books_at (kind.course p) rs (mark_of t))
   compares t =
@@ -37,10 +51,10 @@ module _ {Pos : Type 0} (kind : Kind Pos) (onward : (p : Pos) (n : ℕ) → kind
       let b = walk_at kind.course kind.next onward p rs (mark_of t) in
       cc
 
-  repeats_to : (t : ℕ) → search.Repeats (walk_next kind.course kind.next) (walk_alike kind.alike) (p, rs) t → walks.Repeats kind p rs t
+  repeats_to : (t : ℕ) → search.Repeats (walk_steps kind) (p, rs) t → walks.Repeats kind p rs t
   repeats_to t h = let w = and_parts _ _ (sym (compares t) ∙ h) in (rows_from _ _ w.0, w.1)
 
-  repeats_from : (t : ℕ) → walks.Repeats kind p rs t → search.Repeats (walk_next kind.course kind.next) (walk_alike kind.alike) (p, rs) t
+  repeats_from : (t : ℕ) → walks.Repeats kind p rs t → search.Repeats (walk_steps kind) (p, rs) t
   repeats_from t w =
       let same : same_rows (books_at (kind.course p) rs t) (books_at (kind.course p) rs (mark_of t)) ≡ true =
       ap (same_rows (books_at (kind.course p) rs t)) (sym w.0) ∙ rows_to (books_at (kind.course p) rs t) in
@@ -49,14 +63,16 @@ module _ {Pos : Type 0} (kind : Kind Pos) (onward : (p : Pos) (n : ℕ) → kind
   faults : (n : ℕ) → walk_fault kind.course (stands n) ≡ fault_at (kind.course p) rs n
   faults n = fault_is kind.course kind.next onward p rs n
 
-  calm_to : (n : ℕ) → search.Calm (walk_fault kind.course) (walk_next kind.course kind.next) (p, rs) n → walks.Calm kind p rs n
+  calm_to : (n : ℕ) → search.Calm (walk_steps kind) (p, rs) n → walks.Calm kind p rs n
   calm_to n h m l = sym (faults m) ∙ h m l
 
-  calm_from : (n : ℕ) → walks.Calm kind p rs n → search.Calm (walk_fault kind.course) (walk_next kind.course kind.next) (p, rs) n
+  calm_from : (n : ℕ) → walks.Calm kind p rs n → search.Calm (walk_steps kind) (p, rs) n
   calm_from n h m l = faults m ∙ h m l
 
-  pub walks_from : (f : Found Fault) → Ends f → Walks kind p rs (as_outcome f)
-  walks_from (Repeat m t) e =
+  pub walks_from : (f : End) → Ends f → Walks kind p rs (as_outcome f)
+  walks_from (Ok found) e =
+      let m = found.mark in
+      let t = found.instant in
       let same : m + (t - m) ≡ t = let b = e.below in omega arith in
       let back : (P : ℕ → Type 0) → P t → P (m + (t - m)) = λ P. subst P (sym same) in
       record {
@@ -67,7 +83,7 @@ module _ {Pos : Type 0} (kind : Kind Pos) (onward : (p : Pos) (n : ℕ) → kind
         calm = back (walks.Calm kind p rs) (calm_to t e.calm);
         first = back (walks.Unrepeated kind p rs) (λ u a b w. e.first u a b (repeats_from u w));
       }
-  walks_from (found.Fault slot met) e =
+  walks_from (Err (end.Fault slot met)) e =
       inl (record {
         slot = slot;
         met = met;
@@ -77,17 +93,17 @@ module _ {Pos : Type 0} (kind : Kind Pos) (onward : (p : Pos) (n : ℕ) → kind
         unrepeated = λ u a b w. e.unrepeated u a (omega arith) (repeats_from u w);
         tells = refl;
       })
-  walks_from Nowhere e =
+  walks_from (Err Nowhere) e =
       inr (record {
         calm = calm_to 32767 e.calm;
         unrepeated = λ u a b w. e.unrepeated u a (omega arith) (repeats_from u w);
         tells = refl;
       })
 
-  walks_back : (x : Outcome) → Walks kind p rs x → (f : Found Fault) × (Ends f × (x ≡ as_outcome f))
+  walks_back : (x : Outcome) → Walks kind p rs x → (f : End) × (Ends f × (x ≡ as_outcome f))
   walks_back (granted m l) w =
       let less : (m + l) - m ≡ l = omega arith in (
-        Repeat m (m + l),
+        Ok (record { mark = m; instant = m + l }),
         (
           record {
             from_one = let s = w.some in omega arith;
@@ -102,7 +118,7 @@ module _ {Pos : Type 0} (kind : Kind Pos) (onward : (p : Pos) (n : ℕ) → kind
         ),
       )
   walks_back (refused t) (inl w) = (
-    found.Fault w.slot w.met,
+    Err (end.Fault w.slot w.met),
     (
       record {
         within = w.within;
@@ -114,12 +130,12 @@ module _ {Pos : Type 0} (kind : Kind Pos) (onward : (p : Pos) (n : ℕ) → kind
     ),
   )
   walks_back (refused t) (inr w) = (
-    Nowhere,
+    Err Nowhere,
     (record { calm = calm_from 32767 w.calm; unrepeated = λ u a b h. w.unrepeated u a (omega arith) (repeats_to u h) }, ap refused w.tells),
   )
 
   -- no other outcome would do
-  pub walks_only : (f : Found Fault) → ((x : Found Fault) → Ends x → x ≡ f) → (x : Outcome) → Walks kind p rs x → x ≡ as_outcome f
+  pub walks_only : (f : End) → ((x : End) → Ends x → x ≡ f) → (x : Outcome) → Walks kind p rs x → x ≡ as_outcome f
   walks_only f only x w = let b = walks_back x w in b.1.1 ∙ ap as_outcome (only b.0 b.1.0)
 
 -- a walk with new books of these rows, by how its search ended
@@ -128,9 +144,9 @@ pub record Walked {Pos : Type 0} (kind : Kind Pos) (p : Pos) (rs : List Row) (x 
   pub only : (y : Outcome) → Walks kind p rs y → y ≡ x
 
 pub walked : {Pos : Type 0} (kind : Kind Pos) (onward : (p : Pos) (n : ℕ) → kind.course (kind.next p) n ≡ kind.course p (n + 1)) (p : Pos) (rs qs : List Row) → rs ≡ qs
-    → (f : Found Fault)
-    → Finds (walk_fault kind.course) (walk_next kind.course kind.next) (walk_alike kind.alike) (p, rs) 32767 f
-    → ((x : Found Fault) → Finds (walk_fault kind.course) (walk_next kind.course kind.next) (walk_alike kind.alike) (p, rs) 32767 x → x ≡ f)
+    → (f : End)
+    → Finds (walk_steps kind) (p, rs) 32767 f
+    → ((x : End) → Finds (walk_steps kind) (p, rs) 32767 x → x ≡ f)
     → (x : Outcome) → x ≡ as_outcome f → Walked kind p qs x
 walked kind onward p rs qs e f ends only x is =
     subst (λ (ps : List Row). Walked kind p ps x) e

@@ -4,24 +4,23 @@ use Rattle.std.proofs.Common.{◌≡◌, ℕ, ◌+◌, ◌<◌, false, List, [],
 use Rattle.std.proofs.lemmas.Bool.{both_ways}
 use Rattle.repeat.specs.Finds.{Finds}
 use Rattle.repeat.specs.Marks.{after, mark_of}
-use Rattle.repeat.specs.declared.found.Found.{Found}
+use Rattle.repeat.specs.Turns.{search_from}
 use Rattle.repeat.proofs.Ever.{ever_shown}
 use Rattle.repeat.proofs.Look.{look, look_finds}
 use Rattle.repeat.proofs.Unique.{only}
 use Rattle.books.specs.Slots.{books_at, fault_at, first_fault}
-use Rattle.books.specs.declared.fault.Fault.{Fault}
 use Rattle.books.specs.declared.row.Row.{Row}
 use Rattle.books.proofs.Ages.{stay_equal}
-use Rattle.walk.specs.Steps.{walk_alike, walk_fault, walk_next}
+use Rattle.walk.specs.Steps.{walk_fault, walk_next}
 use Rattle.walk.specs.Walks.{Grants, Kind, Outcome, Walks, refused}
-use Rattle.walk.proofs.Ends.{as_outcome, walks_from, walks_only}
+use Rattle.walk.proofs.Ends.{End, as_outcome, walk_steps, walks_from, walks_only}
 use Rattle.walk.specs.Walking.{fault_is, walk_at}
 
 module _ {Pos : Type 0} (kind : Kind Pos) where
   -- what a walk of at most so many slots answers
   unfoldable pub walk_within : ℕ → Pos → List Row → Outcome
   walk_within limit p rs =
-      as_outcome (look (walk_fault kind.course) (walk_next kind.course kind.next) (walk_alike kind.alike) limit 0 0 (p, rs) (p, rs))
+      as_outcome (look (walk_steps kind) limit 0 (search_from (p, rs)))
 
 -- what has to unfold where a walk is computed
 unfoldable pub walk_computes : Unit {0}
@@ -29,11 +28,11 @@ unfolding walk_within look first_fault
 walk_computes = tt
 
 module _ {Pos : Type 0} (kind : Kind Pos) (onward : (p : Pos) (n : ℕ) → kind.course (kind.next p) n ≡ kind.course p (n + 1)) (p : Pos) (rs : List Row) where
-  abbrev found : Found Fault
-  found = look (walk_fault kind.course) (walk_next kind.course kind.next) (walk_alike kind.alike) 32767 0 0 (p, rs) (p, rs)
+  abbrev found : End
+  found = look (walk_steps kind) 32767 0 (search_from (p, rs))
 
-  finds : Finds (walk_fault kind.course) (walk_next kind.course kind.next) (walk_alike kind.alike) (p, rs) 32767 found
-  finds = look_finds (walk_fault kind.course) (walk_next kind.course kind.next) (walk_alike kind.alike) (p, rs) 32767
+  finds : Finds (walk_steps kind) (p, rs) 32767 found
+  finds = look_finds (walk_steps kind) (p, rs) 32767
 
   -- what it answers is how the walk ends
   pub walks_computed : (x : Outcome) → walk_within kind 32767 p rs ≡ x → Walks kind p rs x
@@ -43,7 +42,7 @@ module _ {Pos : Type 0} (kind : Kind Pos) (onward : (p : Pos) (n : ℕ) → kind
   -- a walk has one outcome only
   pub walks_one : (x y : Outcome) → Walks kind p rs x → Walks kind p rs y → x ≡ y
   walks_one x y v w =
-      let is : (z : Outcome) → Walks kind p rs z → z ≡ as_outcome found = walks_only kind onward p rs found (λ f h. only _ _ _ _ _ f found h finds) in
+      let is : (z : Outcome) → Walks kind p rs z → z ≡ as_outcome found = walks_only kind onward p rs found (λ f h. only _ _ _ f found h finds) in
       is x v ∙ sym (is y w)
 
   -- a walk that was granted, where the courses agree from the repeat and from its mark on

@@ -1,9 +1,11 @@
 -- The first finish of a row: the instant at which its first value goes on show.
-use Rattle.std.specs.Prelude.{◌≡◌, ℕ, ◌<◌, Bool, true, false, cond, List, length, ◌==◌, slice_index_or}
+use Rattle.std.specs.Prelude.{◌≡◌, ℕ, ◌<◌, Bool, true, false, if◌then◌else◌, List, length, Some, None, Option, slice_index_or}
+use Rattle.std.specs.Option.{option_or}
 use Rattle.policy.specs.Course.{Course}
 use Rattle.books.specs.Rows.{blank_row}
 use Rattle.books.specs.Slots.{books_at}
 use Rattle.books.specs.declared.row.Row.{Row}
+use Rattle.readings.specs.declared.reading.Reading.{Reading}
 
 -- a value of row k + 1 is on show at instant n
 abbrev pub shows : Course → List Row → ℕ → ℕ → Bool
@@ -17,6 +19,10 @@ pub record FirstFinish (c : Course) (rs : List Row) (k n : ℕ) : Type 0 where
   pub here : shows c rs k n ≡ true
   pub not_before : (m : ℕ) → m < n → shows c rs k m ≡ false
 
--- what is noted of a row at an instant, where 0 says that nothing was noted before
-abbrev pub noted : ℕ → Row → ℕ → ℕ
-noted instant r before = cond (before == 0) (cond r.shown instant 0) before
+-- what is noted of a row at an instant: what was noted before, or the instant if a value is on show
+abbrev pub noted : ℕ → Row → Option ℕ → Option ℕ
+noted instant r before = option_or before (if r.shown then Some instant else None)
+
+-- one instant for each of these readings
+abbrev pub OneEach : List Reading → List ℕ → Type 0
+OneEach ds finishes = length finishes ≡ length ds

@@ -1,6 +1,7 @@
 -- What it means that a plan was accepted.
-use Rattle.std.specs.Prelude.{◌≡◌, ℕ, ◌<◌, List, map, length, take, None, Ok, Err, Result, slice_index}
+use Rattle.std.specs.Prelude.{◌≡◌, ℕ, ◌<◌, List, map, length, None, Ok, Err, Result, slice_index}
 use Rattle.readings.specs.Lists.{rows_of}
+use Rattle.rows.specs.Held.{rows_of as held}
 use Rattle.readings.specs.Refusals.{told}
 use Rattle.readings.specs.declared.list.Readings.{Readings}
 use Rattle.readings.specs.declared.refusal.Refusal.{Refusal}
@@ -28,4 +29,4 @@ outcome (Err e) = refused (told e)
 
 -- the first finish of each row
 abbrev pub finishes_of : {P : Type 0} → Accepted P → List ℕ
-finishes_of a = take (length (rows_of a.list)) a.finishes
+finishes_of a = held a.finishes

@@ -3,6 +3,8 @@ use Rattle.std.specs.Prelude.{◌≡◌, ℕ, ◌+◌, ◌<◌, ◌≤◌, Bool,
 use Rattle.readings.specs.Refusals.{Told}
 use Rattle.policy.specs.Course.{Course}
 use Rattle.repeat.specs.Marks.{after, mark_of}
+use Rattle.repeat.specs.declared.found.NoRepeat.{NoRepeat}
+use Rattle.repeat.specs.declared.found.NoRepeat.TheVariants as end
 use Rattle.books.specs.Faults.{fault_told}
 use Rattle.books.specs.Slots.{books_at, fault_at}
 use Rattle.books.specs.declared.fault.Fault.{Fault}
@@ -18,6 +20,11 @@ pub record Kind (Pos : Type 0) : Type 0 where
 pub data Outcome : Type 0 where
   granted : ℕ → ℕ → Outcome
   refused : Told → Outcome
+
+-- what a walk tells whose search has no repeat
+abbrev pub end_told : NoRepeat Fault → Told
+end_told (end.Fault slot met) = fault_told met slot
+end_told end.Nowhere = (13, [])
 
 -- a walk from position p with books of these rows
 module _ {Pos : Type 0} (kind : Kind Pos) (p : Pos) (rs : List Row) where

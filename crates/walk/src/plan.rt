@@ -1,4 +1,9 @@
+ghost use Rattle.readings.specs.Lists.{rows_of as readings_of};
+ghost use Rattle.rows.specs.Held.{rows_of};
+ghost use Rattle.walk.specs.Finishes.{OneEach};
+
 use readings::list::Readings;
+use rows::rows::Rows;
 
 mod accept;
 mod crossing;
@@ -12,5 +17,6 @@ pub struct Accepted<P> {
     policy: P,
     mark: u16,
     length: u16,
-    finishes: [u16; 16],
+    finishes: Rows<u16>,
+    ghost each: { OneEach (readings_of list) (rows_of finishes) },
 }

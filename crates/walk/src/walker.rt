@@ -31,12 +31,10 @@ impl<P: Policy> Stepper for Walker<P> {
 
     ghost lasting = { λ s t e n. Walking.lasting P.Policy.course P.Policy.next P.Policy.onward P.Policy.alike P.Policy.agree s t e n };
 
-    fn step(&mut self) -> Option<Fault> {
+    fn step(&mut self) -> Result<(), Fault> {
         let answer = self.policy.step();
-        match self.books.take(answer) {
-            Ok(_) => None,
-            Err(fault) => Some(fault),
-        }
+        self.books.take(answer)?;
+        Ok(())
     }
 
     // The books first: they differ most.

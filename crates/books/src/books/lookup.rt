@@ -1,6 +1,6 @@
 ghost use Rattle.books.specs.Held.{rows_of};
 ghost use Rattle.books.specs.Lookups.{Idle, row_of};
-ghost use Rattle.std.specs.Prelude.{◌≡◌, Decides};
+ghost use Rattle.std.specs.Prelude.{◌≡◌, ◌↔◌, IsTrue};
 
 use super::Books;
 use crate::row::Row;
@@ -10,23 +10,13 @@ impl Books {
     pub fn find(&self, id: u16) -> Option<Row>
         ensures { result ≡ row_of (rows_of self.now) id }
     {
-        for row in self.rows() {
-            if row.has_id(id) {
-                return Some(*row);
-            }
-        }
-        None
+        self.rows().iter().find(|row| row.has_id(id)).copied()
     }
 
     // Whether no job is open.
     pub fn is_idle(&self) -> bool
-        ensures { Decides result (Idle (rows_of self.now)) }
+        ensures { IsTrue result ↔ Idle (rows_of self.now) }
     {
-        for row in self.rows() {
-            if row.job.is_some() {
-                return false;
-            }
-        }
-        true
+        self.rows().iter().all(|row| row.job.is_none())
     }
 }

@@ -1,4 +1,4 @@
-ghost use Rattle.std.specs.Prelude.{◌≡◌, ◌-◌, ◌<◌, ◌≤◌, true, map, length, Some, None, Ok, Err, Decides};
+ghost use Rattle.std.specs.Prelude.{◌≡◌, ◌-◌, ◌<◌, ◌≤◌, true, map, length, Some, None, Ok, Err, ◌↔◌, IsTrue};
 ghost use Rattle.books.specs.Ages.{AgesCounted, StayEqual};
 ghost use Rattle.books.specs.Fresh.{Fresh};
 ghost use Rattle.books.specs.Held.{rows_of};
@@ -7,54 +7,53 @@ ghost use Rattle.books.specs.Parts.{Spare, Young, finishes, grown_fault, passed}
 ghost use Rattle.books.specs.Slots.{each_from, fault, first_fault, lowest_from, run, run_fault, sample_fault, sampled, shown_row, slot};
 ghost use Rattle.policy.specs.Course.{names};
 ghost use Rattle.readings.specs.Lists.{rows_of as readings_of};
+ghost use Rattle.std.specs.Result.{result_err};
 
 use super::Books;
 use crate::fault::{Fault, Step};
 use crate::row::Row;
 use readings::list::Readings;
 use readings::reading::Reading;
+use rows::rows::Rows;
 
 // Whether row k + 1 is among the rows of a mask.
 fn is_named(mask: u16, k: usize) -> bool
-    requires { k < 16 }
     ensures { result ≡ names mask k }
 {
-    (mask >> k) % 2 == 1
+    k < 16 && (mask >> k) % 2 == 1
 }
 
-// What is wrong with the sample of row k + 1 that an answer asks for, if it does.
-fn sample_fault(rows: &[Row], answer: (u16, u8), k: usize) -> Option<Fault>
+// Refuses the sample of row k + 1 that an answer asks for, if it does.
+fn check_sample(rows: &[Row], answer: (u16, u8), k: usize) -> Result<(), Fault>
     requires { k < 16 }
-    ensures { result ≡ sample_fault answer rows.now k }
+    ensures { result_err result ≡ sample_fault answer rows.now k }
 {
     let row = k as u8 + 1;
     if !is_named(answer.0, k) {
-        None
-    } else if k < rows.len() {
-        rows[k].fault(Step::Sample, row)
-    } else {
-        Some(Fault::JobRule { row })
+        return Ok(());
+    }
+    match rows.get(k) {
+        Some(it) => it.check(Step::Sample, row),
+        None => Err(Fault::JobRule { row }),
     }
 }
 
-// The first fault of the samples, lowest row first.
-fn first_sample_fault(rows: &[Row], answer: (u16, u8)) -> Option<Fault>
-    ensures { result ≡ first_fault (sample_fault answer rows.now) 0 16 }
+// Refuses the first sample at fault, lowest row first.
+fn check_samples(rows: &[Row], answer: (u16, u8)) -> Result<(), Fault>
+    ensures { result_err result ≡ first_fault (sample_fault answer rows.now) 0 16 }
 {
     if answer.0 == 0 {
-        return None;
+        return Ok(());
     }
+    // over the 16 places of a mask, past the last row too
     for k in 0..16usize {
-        if let Some(fault) = sample_fault(rows, answer, k) {
-            return Some(fault);
-        }
+        check_sample(rows, answer, k)?;
     }
-    None
+    Ok(())
 }
 
 // Samples row k + 1 if the answer names it.
 fn sample(row: &mut Row, answer: (u16, u8), k: usize)
-    requires { k < 16 }
     ensures { row.new ≡ sampled answer k row.old }
 {
     if is_named(answer.0, k) {
@@ -62,40 +61,23 @@ fn sample(row: &mut Row, answer: (u16, u8), k: usize)
     }
 }
 
-// What is wrong with the row to run, once the samples are taken.
-fn run_fault(rows: &[Row], answer: (u16, u8)) -> Option<Fault>
-    requires { length rows.now ≤ 16 }
-    ensures { result ≡ run_fault answer rows.now }
+// Refuses the row to run for what is wrong with it once the samples are taken.
+fn check_run(rows: &[Row], answer: (u16, u8)) -> Result<(), Fault>
+    ensures { result_err result ≡ run_fault answer rows.now }
 {
     let row = answer.1;
     if row == 0 {
-        return None;
+        return Ok(());
     }
     let k = usize::from(row) - 1;
-    if k >= rows.len() {
-        return Some(Fault::JobRule { row });
-    }
-    let mut run = rows[k];
-    sample(&mut run, answer, k);
-    run.fault(Step::Run, row)
-}
-
-// The first row that is stale once all ages have grown: none within the margin.
-fn first_stale(rows: &[Row], margin: u16) -> Option<Fault>
-    requires few { length rows.now ≤ 16 }
-    requires young { Young rows.now }
-    requires spare { Spare rows.now margin }
-    ensures { result ≡ first_fault (grown_fault rows.now) 0 (length rows.now) }
-{
-    if margin > 0 {
-        return None;
-    }
-    for k in 0..rows.len() {
-        if let Some(fault) = rows[k].stale_next(k as u8 + 1) {
-            return Some(fault);
+    match rows.get(k) {
+        Some(it) => {
+            let mut run = *it;
+            sample(&mut run, answer, k);
+            run.check(Step::Run, row)
         }
+        None => Err(Fault::JobRule { row }),
     }
-    None
 }
 
 // The least number of slots for which a row stays valid, over all rows.
@@ -123,32 +105,15 @@ fn next_margin(rows: &[Row], margin: u16) -> u16
     }
 }
 
-// The first fault of a slot, in the order of its steps.
-fn first_of_slot(rows: &[Row], answer: (u16, u8), margin: u16) -> Option<Fault>
-    requires few { length rows.now ≤ 16 }
-    requires young { Young rows.now }
-    requires spare { Spare rows.now margin }
-    ensures { result ≡ fault answer rows.now }
-{
-    if let Some(fault) = first_sample_fault(rows, answer) {
-        return Some(fault);
-    }
-    if let Some(fault) = run_fault(rows, answer) {
-        return Some(fault);
-    }
-    first_stale(rows, margin)
-}
-
 // Step 1: opens a job for each row to sample.
 fn open_all(rows: &mut [Row], answer: (u16, u8))
-    requires { length rows.old ≤ 16 }
     ensures { rows.new ≡ each_from (sampled answer) 0 rows.old }
 {
     if answer.0 == 0 {
         return;
     }
-    for k in 0..rows.len() {
-        sample(&mut rows[k], answer, k);
+    for (k, row) in rows.iter_mut().enumerate() {
+        sample(row, answer, k);
     }
 }
 
@@ -170,13 +135,14 @@ fn pass_all(rows: &mut [Row]) -> u8
     ensures told { result ≡ lowest_from finishes 0 rows.old }
     ensures done { rows.new ≡ each_from passed 0 rows.old }
 {
-    let mut shown = 0;
-    for k in (0..rows.len()).rev() {
-        if rows[k].pass() {
-            shown = k as u8 + 1;
+    let mut shown = None;
+    for (k, row) in rows.iter_mut().enumerate() {
+        row.grow();
+        if row.close() {
+            shown = shown.or(Some(k as u8 + 1));
         }
     }
-    shown
+    shown.unwrap_or(0)
 }
 
 // Takes all rows through a slot, and answers the row whose value goes on show, or 0.
@@ -198,19 +164,13 @@ impl Books {
         ensures value { rows_of result ≡ map come_on (readings_of list.now) }
         ensures ages { AgesCounted (rows_of result) }
     {
-        let readings = list.rows();
-        let blank = Reading {
+        let blank = Row::new(&Reading {
             id: 0,
             work: 0,
             validity: 0,
-        };
-        let mut rows = [Row::new(&blank); 16];
-        for (k, reading) in readings.iter().enumerate() {
-            rows[k] = Row::new(reading);
-        }
+        });
         Books {
-            rows,
-            count: readings.len(),
+            rows: Rows::of(list.rows(), blank, |reading| Row::new(reading)),
             margin: 0,
         }
     }
@@ -220,14 +180,29 @@ impl Books {
         ensures value { result.now ≡ rows_of self.now }
         ensures law { Fresh result.now }
     {
-        self.filled()
+        self.rows.as_slice()
     }
 
-    // The part of the array that holds rows.
-    fn filled(&self) -> &[Row]
-        ensures { result.now ≡ rows_of self.now }
+    // Refuses the first row that is stale once all ages have grown: none within the margin.
+    fn check_ages(&self) -> Result<(), Fault>
+        ensures { result_err result ≡ first_fault (grown_fault (rows_of self.now)) 0 (length (rows_of self.now)) }
     {
-        &self.rows[0..self.count]
+        if self.margin > 0 {
+            return Ok(());
+        }
+        for (k, row) in self.rows().iter().enumerate() {
+            row.check_next(k as u8 + 1)?;
+        }
+        Ok(())
+    }
+
+    // Refuses the first fault of a slot, in the order of its steps.
+    fn check(&self, answer: (u16, u8)) -> Result<(), Fault>
+        ensures { result_err result ≡ fault answer (rows_of self.now) }
+    {
+        check_samples(self.rows(), answer)?;
+        check_run(self.rows(), answer)?;
+        self.check_ages()
     }
 
     // Takes the answer for a slot: the row whose value went on show, or 0; or the slot's first fault, and then
@@ -240,30 +215,19 @@ impl Books {
           | Err f ↦ (fault answer (rows_of self.old) ≡ Some f) × (self.new ≡ self.old)
         ] }
     {
-        let margin = self.margin;
-        if let Some(fault) = first_of_slot(self.rows(), answer, margin) {
-            return Err(fault);
-        }
-        let rows = &mut self.rows[0..self.count];
-        let shown = turn_all(rows, answer);
-        self.margin = next_margin(rows, margin);
+        self.check(answer)?;
+        let shown = self.rows.lend(|rows| turn_all(rows, answer));
+        self.margin = next_margin(self.rows.as_slice(), self.margin);
         Ok(shown)
     }
 
-    // Whether all that is kept of each row is equal: then both stay equal under equal answers.
+    // Whether all that is kept of each row is equal: then both stay equal under equal answers. No `==` of the
+    // whole, since the margin does not count.
     pub fn same(&self, other: &Books) -> bool
         ensures value { result ≡ same_rows (rows_of self.now) (rows_of other.now) }
-        ensures exact { Decides result (rows_of self.now ≡ rows_of other.now) }
+        ensures exact { IsTrue result ↔ (rows_of self.now ≡ rows_of other.now) }
         ensures lasting { result ≡ true → StayEqual (rows_of self.now) (rows_of other.now) }
     {
-        if self.count != other.count {
-            return false;
-        }
-        for k in 0..self.count {
-            if !self.rows[k].same(&other.rows[k]) {
-                return false;
-            }
-        }
-        true
+        self.rows() == other.rows()
     }
 }

@@ -1,4 +1,4 @@
-ghost use Rattle.std.specs.Prelude.{◌≡◌, ◌≤◌, List, map, length, Decides};
+ghost use Rattle.std.specs.Prelude.{◌≡◌, ◌≤◌, List, map, length, ◌↔◌, IsTrue};
 ghost use Rattle.periodic.specs.Plays.{Plays};
 ghost use Rattle.periodic.specs.Positions.{rows_of};
 ghost use Rattle.periodic.specs.Rows.{begun, lowest, mask, periodic_course, periodic_next, run_lowest, same_rows, sampled, periodic_answer};
@@ -12,6 +12,7 @@ use super::Periodic;
 use crate::row::Row;
 use planner::timings::Timings;
 use policy::policy::Policy;
+use rows::rows::Rows;
 
 // Takes this slot's samples, and answers which rows they are of, as a mask.
 fn sample(rows: &mut [Row]) -> u16
@@ -20,8 +21,10 @@ fn sample(rows: &mut [Row]) -> u16
     ensures taken { rows.new ≡ map sampled rows.old }
 {
     let mut mask = 0;
-    for k in (0..rows.len()).rev() {
-        mask = mask * 2 + u16::from(rows[k].sample());
+    for (k, row) in rows.iter_mut().enumerate() {
+        if row.sample() {
+            mask += 1u16 << k;
+        }
     }
     mask
 }
@@ -48,19 +51,14 @@ impl Periodic {
         ensures begun { rows_of result ≡ map begun (timings_of timings.now) }
         ensures plays { Plays (timings_of timings.now) (periodic_course (rows_of result)) }
     {
-        let given = timings.rows();
-        let mut rows = [Row {
+        let blank = Row {
             work: 0,
             period: 0,
             until: 0,
             left: 0,
-        }; 16];
-        for (k, timing) in given.iter().enumerate() {
-            rows[k] = Row::new(timing);
-        }
+        };
         Periodic {
-            rows,
-            count: given.len(),
+            rows: Rows::of(timings.rows(), blank, |timing| Row::new(timing)),
         }
     }
 }
@@ -81,26 +79,18 @@ impl Policy for Periodic {
     ghost agree = { λ p q h n. ap (λ (rs : List Row). periodic_course rs n) (rows_from_same p q h) };
 
     fn step(&mut self) -> (u16, u8) {
-        let rows = &mut self.rows[0..self.count];
-        let mask = sample(rows);
-        let row = run(rows);
-        (mask, row)
+        self.rows.lend(|rows| {
+            let mask = sample(rows);
+            (mask, run(rows))
+        })
     }
 
     // A yes means that all numbers kept are equal, and where they are it is a yes.
     fn same(&self, other: &Self) -> bool
         ensures value { result ≡ same_rows (rows_of self.now) (rows_of other.now) }
-        ensures exact { Decides result (rows_of self.now ≡ rows_of other.now) }
+        ensures exact { IsTrue result ↔ (rows_of self.now ≡ rows_of other.now) }
     {
-        if self.count != other.count {
-            return false;
-        }
-        for k in 0..self.count {
-            if !self.rows[k].same(&other.rows[k]) {
-                return false;
-            }
-        }
-        true
+        self.rows.as_slice() == other.rows.as_slice()
     }
 
     fn copy(&self) -> Self {

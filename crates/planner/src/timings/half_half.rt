@@ -7,10 +7,11 @@ use super::Timings;
 use crate::timing::Timing;
 use readings::list::Readings;
 use readings::reading::Reading;
+use rows::rows::Rows;
 
 // A row whose period is half of its validity, rounded down.
-fn half_timed(reading: Reading) -> Timing
-    ensures { result ≡ half_timed reading }
+fn half_timed(reading: &Reading) -> Timing
+    ensures { result ≡ half_timed reading.now }
 {
     Timing {
         work: reading.work,
@@ -23,14 +24,9 @@ impl Timings {
     pub fn half_half(list: &Readings) -> Timings
         ensures { timings_of result ≡ half_half (rows_of list.now) }
     {
-        let given = list.rows();
-        let mut rows = [Timing { work: 0, period: 0 }; 16];
-        for (k, reading) in given.iter().enumerate() {
-            rows[k] = half_timed(*reading);
-        }
+        let blank = Timing { work: 0, period: 0 };
         Timings {
-            rows,
-            count: given.len(),
+            rows: Rows::of(list.rows(), blank, |reading| half_timed(reading)),
         }
     }
 }

@@ -10,11 +10,12 @@ use crate::timing::Timing;
 use readings::list::Readings;
 use readings::reading::Reading;
 use readings::refusal::Refusal;
+use rows::rows::Rows;
 
 // A row whose period is what its response time leaves of its validity.
-fn timed(reading: Reading, response: u16) -> Timing
-    requires { response ≤ reading.validity }
-    ensures { result ≡ timed reading (reading.validity - response) }
+fn timed(reading: &Reading, response: u16) -> Timing
+    requires { response ≤ reading.now.validity }
+    ensures { result ≡ timed reading.now (reading.now.validity - response) }
 {
     Timing {
         work: reading.work,
@@ -32,17 +33,12 @@ impl Timings {
         ] }
         ensures law { Planned (rows_of list.now) (more_less (rows_of list.now)) }
     {
-        let given = list.rows();
-        let mut rows = [Timing { work: 0, period: 0 }; 16];
-        for (k, reading) in given.iter().enumerate() {
-            let Some(response) = response_time(&rows[0..k], reading.work, reading.validity) else {
-                return Err(Refusal::Response { row: k as u8 + 1 });
-            };
-            rows[k] = timed(*reading, response);
+        let mut rows = Rows::new(Timing { work: 0, period: 0 });
+        for (k, reading) in list.rows().iter().enumerate() {
+            let none = Refusal::Response { row: k as u8 + 1 };
+            let response = response_time(rows.as_slice(), reading).ok_or(none)?;
+            rows.push(timed(reading, response));
         }
-        Ok(Timings {
-            rows,
-            count: given.len(),
-        })
+        Ok(Timings { rows })
     }
 }

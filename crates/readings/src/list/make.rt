@@ -1,12 +1,12 @@
-ghost use Rattle.std.specs.Prelude.{◌≡◌, ℕ, ◌<◌, ◌≤◌, true, map, length, take, drop, Some, None, Ok, Err};
+ghost use Rattle.std.specs.Prelude.{◌≡◌, ℕ, ◌<◌, ◌≤◌, map, length, Some, None, Ok, Err};
 ghost use Rattle.readings.specs.Lists.{has_id, in_range, kept, list_count, list_refusal, row_refusal, rows_of, rows_refusal};
-ghost use Rattle.readings.specs.Ranges.{WellMade, all_blank};
-ghost use Rattle.readings.specs.Refusals.{told};
-ghost use Rattle.std.specs.Option.{option_map};
+ghost use Rattle.readings.specs.Ranges.{WellMade};
+ghost use Rattle.readings.specs.Refusals.{refusal_of, told};
 
 use super::Readings;
 use crate::reading::{Proposal, Reading};
 use crate::refusal::Refusal;
+use rows::rows::Rows;
 
 // Whether a list may have so many rows.
 fn is_count(rows: usize) -> bool
@@ -26,76 +26,59 @@ impl Proposal {
             && self.validity <= 4095
             && self.work <= self.validity
     }
+
+    // The reading that these numbers make. By `as`, since a `try_from` would have an error that cannot come.
+    fn kept(&self) -> Reading
+        requires id { self.now.id ≤ 65535 }
+        requires work { self.now.work ≤ 255 }
+        requires validity { self.now.validity ≤ 4095 }
+        ensures { result ≡ kept self.now }
+    {
+        Reading {
+            id: self.id as u16,
+            work: self.work as u8,
+            validity: self.validity as u16,
+        }
+    }
 }
 
 // Whether one of these rows has the id.
 fn has_id(id: u32, rows: &[Proposal]) -> bool
     ensures { result ≡ has_id id rows.now }
 {
-    for row in rows {
-        if row.id == id {
-            return true;
-        }
-    }
-    false
+    rows.iter().any(|row| row.id == id)
 }
 
-// The first refusal of row k + 1.
-fn row_refusal(rows: &[Proposal], k: usize) -> Option<Refusal>
+// Refuses row k + 1 for the first thing that is wrong with it.
+fn check_row(rows: &[Proposal], k: usize) -> Result<(), Refusal>
     requires listed { k < length rows.now }
     requires few { k < 16 }
-    ensures { option_map told result ≡ row_refusal rows.now k }
+    ensures { refusal_of result ≡ row_refusal rows.now k }
 {
     let row = k as u8 + 1;
     let it = rows[k];
     let above = rows[k.saturating_sub(1)];
     if !it.in_range() {
-        return Some(Refusal::Range { row });
+        return Err(Refusal::Range { row });
     }
     if it.id < 1 || 65535 < it.id || has_id(it.id, &rows[0..k]) {
-        return Some(Refusal::Id { row });
+        return Err(Refusal::Id { row });
     }
     if it.validity < above.validity {
-        return Some(Refusal::Order { row });
+        return Err(Refusal::Order { row });
     }
-    None
+    Ok(())
 }
 
-// The first refusal of a row, row by row.
-fn rows_refusal(rows: &[Proposal]) -> Option<Refusal>
+// Refuses the first row with something wrong. By index, which gives a row its number and ends the rows above it.
+fn check_rows(rows: &[Proposal]) -> Result<(), Refusal>
     requires { length rows.now ≤ 16 }
-    ensures { option_map told result ≡ rows_refusal rows.now 0 (length rows.now) }
+    ensures { refusal_of result ≡ rows_refusal rows.now 0 (length rows.now) }
 {
     for k in 0..rows.len() {
-        let refusal = row_refusal(rows, k);
-        if refusal.is_some() {
-            return refusal;
-        }
+        check_row(rows, k)?;
     }
-    None
-}
-
-// The rows that these numbers make, and zeros past their end.
-fn kept_rows(given: &[Proposal]) -> [Reading; 16]
-    requires few { length given.now ≤ 16 }
-    requires unrefused { (k : ℕ) → k < length given.now → row_refusal given.now k ≡ None }
-    ensures rows { take (length given.now) result ≡ map kept given.now }
-    ensures rest { all_blank (drop (length given.now) result) ≡ true }
-    ensures long { length result ≡ 16 }
-{
-    let mut rows = [Reading {
-        id: 0,
-        work: 0,
-        validity: 0,
-    }; 16];
-    for (k, row) in given.iter().enumerate() {
-        rows[k] = Reading {
-            id: row.id as u16,
-            work: row.work as u8,
-            validity: row.validity as u16,
-        };
-    }
-    rows
+    Ok(())
 }
 
 impl Readings {
@@ -107,17 +90,17 @@ impl Readings {
           | Err e ↦ list_refusal given.now ≡ Some (told e)
         ] }
     {
-        let count = given.len();
-        if !is_count(count) {
+        if !is_count(given.len()) {
             return Err(Refusal::Count);
         }
-        match rows_refusal(given) {
-            Some(refusal) => Err(refusal),
-            None => {
-                let rows = kept_rows(given);
-                Ok(Readings { rows, count })
-            }
-        }
+        check_rows(given)?;
+        let blank = Reading {
+            id: 0,
+            work: 0,
+            validity: 0,
+        };
+        let rows = Rows::of(given, blank, |row| row.kept());
+        Ok(Readings { rows })
     }
 
     // The rows, first to last: 1 to 16, each in range, no two with one id, in order of validity.
@@ -125,13 +108,6 @@ impl Readings {
         ensures value { result.now ≡ rows_of self.now }
         ensures law { WellMade result.now }
     {
-        self.filled()
-    }
-
-    // The part of the array that holds rows.
-    fn filled(&self) -> &[Reading]
-        ensures { result.now ≡ rows_of self.now }
-    {
-        &self.rows[0..self.count]
+        self.rows.as_slice()
     }
 }

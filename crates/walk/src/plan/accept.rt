@@ -1,69 +1,77 @@
-ghost use Rattle.std.specs.Prelude.{◌≡◌, ℕ, ◌-◌, ◌<◌, ◌≤◌, true, length, IfOk, None, slice_index, slice_index_or};
+ghost use Rattle.std.specs.Prelude.{◌≡◌, ◌≢◌, ℕ, ◌-◌, ◌<◌, ◌≤◌, true, length, map, take, unwrap_or, IfOk, None, slice_index, slice_index_or};
 ghost use Rattle.books.specs.Ages.{AgesCounted};
 ghost use Rattle.books.specs.Held.{rows_of};
 ghost use Rattle.books.specs.Rows.{blank_row};
 ghost use Rattle.books.specs.Slots.{fault_at};
-ghost use Rattle.walk.specs.Finishes.{FirstFinish, NoneShown, noted};
-ghost use Rattle.walk.specs.Plans.{Accepts, new_rows, outcome};
-ghost use Rattle.walk.specs.Walks.{Outcome, Walks};
+ghost use Rattle.readings.specs.Lists.{rows_of as readings_of};
+ghost use Rattle.readings.specs.Refusals.{told};
+ghost use Rattle.rows.specs.Held.{rows_of as held};
+ghost use Rattle.walk.specs.Finishes.{FirstFinish, NoneShown, OneEach, noted};
+ghost use Rattle.walk.specs.Plans.{Accepts, finishes_of, new_rows, outcome};
+ghost use Rattle.walk.specs.Walks.{Outcome, Walks, end_told};
 
 use super::Accepted;
 use crate::walker::Walker;
 use books::books::Books;
+use books::fault::Fault;
 use books::row::Row;
 use policy::policy::Policy;
 use readings::list::Readings;
 use readings::refusal::Refusal;
-use repeat::found::Found;
+use repeat::found::{NoRepeat, Repeat};
 use repeat::search::first_repeat;
 use repeat::stepper::Stepper;
+use rows::rows::Rows;
 
-// What is noted of a row at an instant, where 0 says that nothing was noted before.
-fn note(row: &Row, before: u16, instant: u16) -> u16
+// What is noted of a row at an instant: what was noted before, or the instant if a value is on show.
+fn note(row: &Row, before: Option<u16>, instant: u16) -> Option<u16>
     ensures { result ≡ noted instant row.now before }
 {
-    if before != 0 {
-        before
-    } else if row.shown {
-        instant
-    } else {
-        0
-    }
+    before.or(row.shown.then_some(instant))
 }
 
 // Notes the instant for each row that has a value on show and nothing noted yet, and says whether something is
-// then noted of every row.
-fn note_all(finishes: &mut [u16; 16], rows: &[Row], instant: u16) -> bool
+// then noted of every row. The notes stand beside the rows, which are the walker's own and are only read.
+fn note_all(notes: &mut [Option<u16>; 16], rows: &[Row], instant: u16) -> bool
     requires { length rows.now ≤ 16 }
-    ensures noted { (k : ℕ) → k < length rows.now → slice_index finishes.new k ≡ noted instant (slice_index_or rows.now k blank_row) (slice_index finishes.old k) }
-    ensures all { result ≡ true → (k : ℕ) → k < length rows.now → 0 < slice_index finishes.new k }
+    ensures noted { (k : ℕ) → k < length rows.now → slice_index_or notes.new k None ≡ noted instant (slice_index_or rows.now k blank_row) (slice_index_or notes.old k None) }
+    ensures all { result ≡ true → (k : ℕ) → k < length rows.now → slice_index_or notes.new k None ≢ None }
 {
     let mut all = true;
-    for k in 0..rows.len() {
-        let finish = note(&rows[k], finishes[k], instant);
-        finishes[k] = finish;
-        all = all && finish != 0;
+    for (k, row) in rows.iter().enumerate() {
+        let finish = note(row, notes[k], instant);
+        notes[k] = finish;
+        all = all && finish.is_some();
     }
     all
 }
 
+// The instants that are noted.
+fn instants_of(notes: &[Option<u16>]) -> Rows<u16>
+    ensures { held result ≡ map (λ o. unwrap_or o 0) (take 16 notes.now) }
+{
+    Rows::of(notes, 0, |note| note.unwrap_or(0))
+}
+
 // The first finish of each row along a course that has no fault: no row waits longer than its validity, which
 // is at most 4,095 slots.
-fn first_finishes<P: Policy>(start: &Walker<P>) -> [u16; 16]
+fn first_finishes<P: Policy>(start: &Walker<P>) -> Rows<u16>
     requires calm { (n : ℕ) → fault_at (P.Policy.course (P.Policy.position start.now.policy)) (rows_of start.now.books) n ≡ None }
     requires ages { AgesCounted (rows_of start.now.books) }
     requires none { NoneShown (rows_of start.now.books) }
-    ensures { (k : ℕ) → k < length (rows_of start.now.books) → FirstFinish (P.Policy.course (P.Policy.position start.now.policy)) (rows_of start.now.books) k (slice_index result k) }
+    ensures each { length (held result) ≡ length (rows_of start.now.books) }
+    ensures finish { (k : ℕ) → k < length (rows_of start.now.books) → FirstFinish (P.Policy.course (P.Policy.position start.now.policy)) (rows_of start.now.books) k (slice_index (held result) k) }
 {
     let mut walker = start.copy();
-    let mut finishes = [0; 16];
+    let mut notes = [None; 16];
+    let rows = start.books.rows().len();
     for slot in 0..4095u16 {
         let _ = walker.step();
-        if note_all(&mut finishes, walker.books.rows(), slot + 1) {
-            return finishes;
+        if note_all(&mut notes, walker.books.rows(), slot + 1) {
+            return instants_of(&notes[..rows]);
         }
     }
-    finishes
+    instants_of(&notes[..rows])
 }
 
 // The plan whose books and position at an instant repeat those at its mark.
@@ -72,10 +80,15 @@ fn accept<P>(
     policy: P,
     mark: u16,
     instant: u16,
-    finishes: [u16; 16],
+    finishes: Rows<u16>,
 ) -> Accepted<P>
-    requires { mark ≤ instant }
-    ensures { result ≡ record { list = list.entry.now; policy = policy; mark = mark; length = instant - mark; finishes = finishes } }
+    requires later { mark ≤ instant }
+    requires each { OneEach (readings_of list.now) (held finishes) }
+    ensures list { result.list ≡ list.now }
+    ensures policy { result.policy ≡ policy }
+    ensures mark { result.mark ≡ mark }
+    ensures length { result.length ≡ instant - mark }
+    ensures finishes { result.finishes ≡ finishes }
 {
     Accepted {
         list: *list,
@@ -83,6 +96,16 @@ fn accept<P>(
         mark,
         length: instant - mark,
         finishes,
+    }
+}
+
+// The refusal of a walk whose search has no repeat: that of the fault that it met, or 13.
+fn refusal_of(end: NoRepeat<Fault>) -> Refusal
+    ensures { told result ≡ end_told end }
+{
+    match end {
+        NoRepeat::Fault { slot, fault } => fault.refusal(slot),
+        NoRepeat::Nowhere => Refusal::NoRepeat,
     }
 }
 
@@ -94,20 +117,15 @@ impl<P: Policy> Accepted<P> {
         ensures walks { Walks (record { course = P.Policy.course; next = P.Policy.next; alike = P.Policy.alike }) (P.Policy.position policy) (new_rows list.now) (outcome result) }
         ensures only { (x : Outcome) → Walks (record { course = P.Policy.course; next = P.Policy.next; alike = P.Policy.alike }) (P.Policy.position policy) (new_rows list.now) x → x ≡ outcome result }
         ensures plan { IfOk result (λ a. (a.list ≡ list.now) × (a.policy ≡ policy)) }
-        ensures ever { IfOk result (λ a. Accepts (P.Policy.course (P.Policy.position policy)) (new_rows list.now) a.finishes) }
+        ensures ever { IfOk result (λ a. Accepts (P.Policy.course (P.Policy.position policy)) (new_rows list.now) (finishes_of a)) }
     {
         let walker = Walker {
             policy,
             books: Books::new(list),
         };
-        match first_repeat(&walker, 32767) {
-            Found::Repeat { mark, instant } => {
-                let finishes = first_finishes(&walker);
-                let Walker { policy, books: _ } = walker;
-                Ok(accept(list, policy, mark, instant, finishes))
-            }
-            Found::Fault { slot, fault } => Err(fault.refusal(slot)),
-            Found::Nowhere => Err(Refusal::NoRepeat),
-        }
+        let Repeat { mark, instant } = first_repeat(&walker, 32767).map_err(refusal_of)?;
+        let finishes = first_finishes(&walker);
+        let Walker { policy, books: _ } = walker;
+        Ok(accept(list, policy, mark, instant, finishes))
     }
 }

@@ -1,9 +1,9 @@
 ghost use Rattle.books.specs.Held.{rows_of};
 ghost use Rattle.books.specs.Lookups.{Idle, row_of};
 ghost use Rattle.readings.specs.Lists.{rows_of as readings_of};
-ghost use Rattle.std.specs.Prelude.{◌≡◌, Decides};
+ghost use Rattle.std.specs.Prelude.{◌≡◌, ◌↔◌, IsTrue};
 ghost use Rattle.walk.specs.Crossings.{Keeps, MayCross, in_time};
-ghost use Rattle.walk.specs.Plans.{Accepts, new_rows};
+ghost use Rattle.walk.specs.Plans.{Accepts, finishes_of, new_rows};
 
 use super::Accepted;
 use books::books::Books;
@@ -16,10 +16,7 @@ use readings::reading::Reading;
 fn is_in_time(old: Option<Row>, reading: &Reading, finish: u16) -> bool
     ensures { result ≡ in_time old reading.now finish }
 {
-    match old {
-        Some(row) => u32::from(row.age) + u32::from(finish) <= u32::from(reading.validity),
-        None => true,
-    }
+    old.is_none_or(|row| u32::from(row.age) + u32::from(finish) <= u32::from(reading.validity))
 }
 
 // Whether a reading of the new list passes: it is not shared, or in time.
@@ -34,17 +31,15 @@ impl<P: Policy> Accepted<P> {
     // validity before its first value by the new plan. For a plan that a walk accepted, that is exactly when no
     // job is open and a crossing now keeps every shared reading valid for ever.
     pub fn may_cross(&self, books: &Books) -> bool
-        ensures test { Decides result (MayCross (rows_of books.now) (readings_of self.now.list) self.now.finishes) }
-        ensures exact { Accepts (P.Policy.course (P.Policy.position self.now.policy)) (new_rows self.now.list) self.now.finishes → Decides result (Idle (rows_of books.now) × Keeps (rows_of books.now) (readings_of self.now.list) (P.Policy.course (P.Policy.position self.now.policy))) }
+        ensures test { IsTrue result ↔ MayCross (rows_of books.now) (readings_of self.now.list) (finishes_of self.now) }
+        ensures exact { Accepts (P.Policy.course (P.Policy.position self.now.policy)) (new_rows self.now.list) (finishes_of self.now) → (IsTrue result ↔ (Idle (rows_of books.now) × Keeps (rows_of books.now) (readings_of self.now.list) (P.Policy.course (P.Policy.position self.now.policy)))) }
     {
-        if !books.is_idle() {
-            return false;
-        }
-        for (k, reading) in self.list.rows().iter().enumerate() {
-            if !passes(books, reading, self.finishes[k]) {
-                return false;
-            }
-        }
-        true
+        books.is_idle()
+            && self
+                .list
+                .rows()
+                .iter()
+                .zip(self.finishes.as_slice())
+                .all(|(reading, finish)| passes(books, reading, *finish))
     }
 }

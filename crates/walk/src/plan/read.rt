@@ -1,5 +1,7 @@
 ghost use Rattle.walk.specs.Plans.{finishes_of};
+ghost use Rattle.readings.specs.Lists.{rows_of as readings_of};
 ghost use Rattle.std.specs.Prelude.{◌≡◌};
+ghost use Rattle.walk.specs.Finishes.{OneEach};
 
 use super::Accepted;
 
@@ -20,9 +22,9 @@ impl<P> Accepted<P> {
 
     // The first finish of each row.
     pub fn first_finishes(&self) -> &[u16]
-        ensures { result.now ≡ finishes_of self.now }
+        ensures value { result.now ≡ finishes_of self.now }
+        ensures each { OneEach (readings_of self.now.list) result.now }
     {
-        let rows = self.list.rows().len();
-        &self.finishes[0..rows]
+        self.finishes.as_slice()
     }
 }

@@ -2,17 +2,11 @@ use Rattle.std.proofs.Common.{sym, subst}
 use Rattle.readings.specs.Lists.{rows_of as readings_of}
 use Rattle.periodic.specs.Positions.{rows_of as kept_of}
 use Rattle.examples.specs.Given.{RulesGive}
-use Rattle.examples.specs.Runs.{comes_to}
 use Rattle.examples.specs.declared.asked.Asked.{Asked}
-use Rattle.examples.proofs.Running.{finishes_told, slot_told}
+use Rattle.examples.proofs.Running.{slot_told}
 use Rattle.examples.proofs.asked.Asked.run.Goals as goal
-
-pub returns-in_ok-more_less-in-FinishesOfX : goal.returns-in_ok-more_less-in-FinishesOfX
-returns-in_ok-more_less-in-FinishesOfX c =
-    subst (λ (a : Asked). RulesGive a (comes_to c.finishes.result)) (sym c.in-FinishesOfX.is)
-    (finishes_told (readings_of c.in_ok-x.x) (kept_of c.in_ok-more_less-in-FinishesOfX.field-0) c.in_ok-x.ensures c.in_ok-more_less-in-FinishesOfX.ensures c.finishes.result c.finishes.ensures)
 
 pub returns-in_ok-more_less-in-AgeTwelveOfY : goal.returns-in_ok-more_less-in-AgeTwelveOfY
 returns-in_ok-more_less-in-AgeTwelveOfY c =
-    subst (λ (a : Asked). RulesGive a (comes_to c.slot_after.result)) (sym c.in-AgeTwelveOfY.is)
+    subst (λ (a : Asked). RulesGive a c.slot_after.result) (sym c.in-AgeTwelveOfY.is)
     (slot_told (readings_of c.in_ok-y.y) (kept_of c.in_ok-more_less-in-AgeTwelveOfY.field-0) c.in_ok-y.ensures c.in_ok-more_less-in-AgeTwelveOfY.ensures c.slot_after.result c.slot_after.ensures)

@@ -1,22 +1,33 @@
-use Rattle.std.proofs.Common.{◌-◌, arith}
-use Rattle.periodic.proofs.Masks.{mask_room}
-use Rattle.periodic.proofs.Samples.{byte_small, sampled_more, sampled_none}
+use Rattle.std.proofs.Common.{◌+◌, ◌∙◌, set, ap, sym, subst, arith}
+use Rattle.periodic.proofs.Masks.{mask_fits, bit_fits}
+use Rattle.periodic.proofs.Samples.{SampledBelow, room, sampled_all, sampled_due, sampled_none, sampled_not}
 use Rattle.periodic.proofs.periodic.kind.sample.Goals as goal
+use Rattle.periodic.proofs.periodic.kind.sample.Goals.{then-sample, else-sample}
 
 pub loop-k-init : goal.loop-k-init
 loop-k-init c = sampled_none c.args.rows.now
 
-pub overflow_mul-mask : goal.overflow_mul-mask
-overflow_mul-mask c = let r = mask_room c.args.rows.now c.loop-k.k c.requires (omega arith) in omega arith
-
 pub overflow_add-mask : goal.overflow_add-mask
 overflow_add-mask c =
-    let r = mask_room c.args.rows.now c.loop-k.k c.requires (omega arith) in
-    let b = byte_small c.sample.result in
+    let f = mask_fits c.args.rows.now c.requires in
+    let r = room c.loop-k.k c.args.rows.now c.loop-k.mask c.loop-k.rows c.loop-k-test.true c.loop-k.invariant c.if-sample.ensures.said in
+    let b = bit_fits c.loop-k.k (omega arith) in
     omega arith
 
 pub loop-k-preserved : goal.loop-k-preserved
 loop-k-preserved c =
-    rw c.from.ensures
-    (sampled_more c.loop-k.k (c.loop-k.k - 1) c.args.rows.now c.loop-k.mask c.loop-k.rows (omega arith) (omega arith)
-    c.loop-k.invariant c.sample.result c.sample.new.self c.sample.ensures.said c.sample.ensures.taken)
+    let k = c.loop-k.k in
+    let old = c.args.rows.now in
+    let rows = c.loop-k.rows in
+    let r = c.sample.new.self in
+    elim c.if-sample.branch [
+      | then-sample w ↦
+          subst (λ m. SampledBelow (k + 1) old m (set rows k r)) (sym (w.mask-is ∙ ap (λ n. c.loop-k.mask + n) (bit_fits k (omega arith))))
+          (sampled_due k old c.loop-k.mask rows c.loop-k-test.true c.loop-k.invariant r (omega arith) w.if-sample.ensures.said c.sample.ensures.taken)
+      | else-sample w ↦
+          subst (λ m. SampledBelow (k + 1) old m (set rows k r)) (sym w.mask-is)
+          (sampled_not k old c.loop-k.mask rows c.loop-k-test.true c.loop-k.invariant r (omega arith) w.if-sample.ensures.said c.sample.ensures.taken)
+    ]
+
+pub returns : goal.returns
+returns c = let a = sampled_all c.loop-k.k c.args.rows.now c.loop-k.mask c.loop-k.rows c.loop-k-test.false c.loop-k.invariant in record { told = a.0; taken = a.1 }

@@ -1,5 +1,5 @@
-use Rattle.periodic.proofs.Samples.{SampledFrom}
+use Rattle.periodic.proofs.Samples.{SampledBelow}
 use Rattle.periodic.proofs.periodic.kind.sample.Given as goal
 
 abbrev pub invariant-loop-k : goal.invariant-loop-k
-invariant-loop-k l = SampledFrom l.k l.initial.rows l.mask l.rows
+invariant-loop-k l = SampledBelow l.k l.initial.rows l.mask l.rows

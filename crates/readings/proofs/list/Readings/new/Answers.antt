@@ -1,32 +1,25 @@
-use Rattle.std.proofs.Common.{◌≡◌, ℕ, ◌<◌, length, None, sym, arith}
-use Rattle.readings.specs.Lists.{row_refusal}
-use Rattle.readings.proofs.Kept.{ids, works, validities, apart, ordered}
-use Rattle.readings.proofs.Refused.{counted, none_at}
+use Rattle.std.proofs.Common.{◌-◌, length, sym, ap, ◌∙◌, subst, arith, rules}
+use Rattle.readings.specs.Lists.{kept}
+use Rattle.readings.specs.Ranges.{WellMade, all_blank}
+use Rattle.readings.proofs.Kept.{all_kept, fits, well_made}
+use Rattle.readings.proofs.Refused.{blank_replicate, counted, unrefused}
+use Rattle.rows.specs.Held.{rows_of}
 use Rattle.readings.proofs.list.Readings.new.Goals as goal
 
-pub kept_rows-rows-requires : goal.kept_rows-rows-requires
-kept_rows-rows-requires c =
-    let ps = c.args.given.now in
-    record {
-      few = (counted (length ps) c.if-not-is_count.ensures).1;
-      unrefused = λ k h. none_at ps 0 (length ps) (sym c.in-None.ensures) k (omega arith) (omega arith);
-    }
+pub of-rows-requires : goal.of-rows-requires
+of-rows-requires c = (omega arith, λ k p h e. let f = fits c.args.given.now (unrefused c.args.given.now c.in_ok-check_rows.ensures) k p.now h e in λ _ _ _ _. (f.id, (f.work, f.validity)))
 
 pub invariant_of-result : goal.invariant_of-result
 invariant_of-result c =
-    let ps = c.args.given.now in
-    let rows = c.kept_rows-rows.result in
-    let filled = c.kept_rows-rows.ensures.rows in
-    let count = counted (length ps) c.if-not-is_count.ensures in
-    let none : (k : ℕ) → k < length ps → row_refusal ps k ≡ None = λ k h. none_at ps 0 (length ps) (sym c.in-None.ensures) k (omega arith) (omega arith) in
+    let given = c.args.given.now in
+    let n = counted (length given) c.if-not-is_count.ensures in
     record {
-      long = c.kept_rows-rows.ensures.long;
-      some = count.0;
-      few = count.1;
-      ids = ids ps rows filled none;
-      works = works ps rows filled none;
-      validities = validities ps rows filled none;
-      apart = apart ps rows filled none;
-      ordered = ordered ps rows filled none;
-      rest = c.kept_rows-rows.ensures.rest;
+      law = subst WellMade (sym (all_kept given _ n.1 (c.of-rows.ensures.rows kept (λ x r s. search rules)))) (well_made given (unrefused given c.in_ok-check_rows.ensures) n.0 n.1);
+      rest = ap all_blank c.of-rows.ensures.rest ∙ blank_replicate (16 - length (rows_of c.of-rows.result));
     }
+
+pub returns : goal.returns
+returns c =
+    let given = c.args.given.now in
+    let n = counted (length given) c.if-not-is_count.ensures in
+    (search (rules, counted), all_kept given _ n.1 (c.of-rows.ensures.rows kept (λ x r s. search rules)))

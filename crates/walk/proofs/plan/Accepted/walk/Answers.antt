@@ -1,53 +1,54 @@
-use Rattle.std.proofs.Common.{◌≡◌, ℕ, List, [], None, sym, refl, ap, ◌∙◌, subst}
-use Rattle.repeat.specs.declared.found.Found.TheVariants.{Fault, Nowhere, Repeat}
+use Rattle.std.proofs.Common.{◌≡◌, ℕ, List, None, Ok, sym, refl, ◌∙◌, subst, arith}
+use Rattle.std.proofs.lemmas.Result.{err_from_is_err_and}
 use Rattle.books.specs.Held.{rows_of}
 use Rattle.books.specs.Slots.{fault_at}
 use Rattle.books.specs.declared.row.Row.{Row}
 use Rattle.walk.specs.Finishes.{NoneShown}
-use Rattle.walk.specs.Plans.{Accepts, new_rows}
-use Rattle.walk.specs.Walks.{Kind, granted, refused}
-use Rattle.walk.specs.declared.plan.Accepted.{Accepted}
-use Rattle.walk.proofs.Ends.{walked}
+use Rattle.walk.specs.Plans.{Accepts, outcome}
+use Rattle.walk.specs.Walks.{Kind, granted}
+use Rattle.walk.proofs.Ends.{as_outcome, refusal_told, walked}
 use Rattle.walk.proofs.Finishing.{new_unshown}
+use Rattle.rows.specs.Held.{rows_of as held}
 use Rattle.walk.specs.Walking.{fault_is}
 use Rattle.walk.proofs.plan.Accepted.walk.Goals as goal
+
+pub returns-in_err-mark : goal.returns-in_err-mark
+returns-in_err-mark g c =
+    let kind : Kind g.P.Policy.Position = record { course = g.P.Policy.course; next = g.P.Policy.next; alike = g.P.Policy.alike } in
+    let search = c.first_repeat in
+    let p = err_from_is_err_and c.from_residual.result c.from_residual.ensures.1 in
+    let is : outcome c.from_residual.result ≡ as_outcome search.result = rw (p.1, p.2) (refusal_told search.result c.map_err.result c.in_err-mark.field-0.0 c.map_err.ensures.cases c.in_err-mark.was) in
+    let w = walked kind g.met.P.Policy.onward (g.P.Policy.position c.args.policy) (rows_of c.new.result) _ c.new.ensures.value search.result search.ensures.found search.ensures.only _ is in
+    record { walks = w.walks; only = w.only; plan = rw (p.1) tt; ever = rw (p.1) tt }
 
 pub first_finishes-finishes-requires : goal.first_finishes-finishes-requires
 first_finishes-finishes-requires g c =
     let p = g.P.Policy.position c.args.policy in
+    let found : c.first_repeat.result ≡ Ok c.in_ok-mark.field-0 = grind arith in
+    let calm = rw found at c.first_repeat.ensures.ever in
     record {
-      calm = λ n. sym (fault_is g.P.Policy.course g.P.Policy.next g.met.P.Policy.onward p (rows_of c.new.result) n) ∙ c.in-Repeat.ensures.ever n;
+      calm = λ n. sym (fault_is g.P.Policy.course g.P.Policy.next g.met.P.Policy.onward p (rows_of c.new.result) n) ∙ calm n;
       ages = c.new.ensures.ages;
       none = subst NoneShown (sym c.new.ensures.value) (new_unshown c.args.list.now);
     }
 
-pub returns-in-Repeat : goal.returns-in-Repeat
-returns-in-Repeat g c =
+pub returns : goal.returns
+returns g c =
     let p = g.P.Policy.position c.args.policy in
     let kind : Kind g.P.Policy.Position = record { course = g.P.Policy.course; next = g.P.Policy.next; alike = g.P.Policy.alike } in
+    let search = c.first_repeat in
+    let found : search.result ≡ Ok c.in_ok-mark.field-0 = grind arith in
     let is = c.accept.ensures in
-    let w = walked kind g.met.P.Policy.onward p (rows_of c.new.result) _ c.new.ensures.value (Repeat c.in-Repeat.mark c.in-Repeat.instant) c.in-Repeat.ensures.found c.in-Repeat.ensures.only (granted c.accept.result.mark c.accept.result.length) (ap (λ (a : Accepted _). granted a.mark a.length) is) in
+    let end : granted c.accept.result.mark c.accept.result.length ≡ as_outcome search.result = rw (is.mark, is.length, found) refl in
+    let w = walked kind g.met.P.Policy.onward p (rows_of c.new.result) _ c.new.ensures.value search.result search.ensures.found search.ensures.only _ end in
+    let ever = rw found at search.ensures.ever in
     let calm : (n : ℕ) → fault_at (g.P.Policy.course p) (rows_of c.new.result) n ≡ None =
-    λ n. sym (fault_is g.P.Policy.course g.P.Policy.next g.met.P.Policy.onward p (rows_of c.new.result) n) ∙ c.in-Repeat.ensures.ever n in
-    let accepts : Accepts (g.P.Policy.course p) (rows_of c.new.result) c.first_finishes-finishes.result = record { calm = calm; finish = c.first_finishes-finishes.ensures } in
-    let here = subst (λ (rs : List Row). Accepts (g.P.Policy.course p) rs c.first_finishes-finishes.result) c.new.ensures.value accepts in
+    λ n. sym (fault_is g.P.Policy.course g.P.Policy.next g.met.P.Policy.onward p (rows_of c.new.result) n) ∙ ever n in
+    let accepts : Accepts (g.P.Policy.course p) (rows_of c.new.result) (held c.first_finishes-finishes.result) = record { calm = calm; finish = c.first_finishes-finishes.ensures.finish } in
+    let here = subst (λ (rs : List Row). Accepts (g.P.Policy.course p) rs (held c.first_finishes-finishes.result)) c.new.ensures.value accepts in
     record {
       walks = w.walks;
       only = w.only;
-      plan = (ap (λ (a : Accepted _). a.list) is, ap (λ (a : Accepted _). a.policy) is);
-      ever = subst (λ (fs : List ℕ). Accepts (g.P.Policy.course p) (new_rows c.args.list.now) fs) (sym (ap (λ (a : Accepted _). a.finishes) is)) here;
+      plan = (is.list, is.policy);
+      ever = rw is.finishes here;
     }
-
-pub returns-in-Fault : goal.returns-in-Fault
-returns-in-Fault g c =
-    let p = g.P.Policy.position c.args.policy in
-    let kind : Kind g.P.Policy.Position = record { course = g.P.Policy.course; next = g.P.Policy.next; alike = g.P.Policy.alike } in
-    let w = walked kind g.met.P.Policy.onward p (rows_of c.new.result) _ c.new.ensures.value (Fault c.in-Fault.slot c.in-Fault.fault) c.in-Fault.ensures.found c.in-Fault.ensures.only _ (ap refused c.refusal.ensures) in
-    record { walks = w.walks; only = w.only; plan = tt; ever = tt }
-
-pub returns-in-Nowhere : goal.returns-in-Nowhere
-returns-in-Nowhere g c =
-    let p = g.P.Policy.position c.args.policy in
-    let kind : Kind g.P.Policy.Position = record { course = g.P.Policy.course; next = g.P.Policy.next; alike = g.P.Policy.alike } in
-    let w = walked kind g.met.P.Policy.onward p (rows_of c.new.result) _ c.new.ensures.value Nowhere c.in-Nowhere.ensures.found c.in-Nowhere.ensures.only (refused (13, [])) refl in
-    record { walks = w.walks; only = w.only; plan = tt; ever = tt }

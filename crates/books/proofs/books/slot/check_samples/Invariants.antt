@@ -1,0 +1,6 @@
+use Rattle.books.specs.Slots.{sample_fault}
+use Rattle.books.proofs.Firsts.{NoneBelow}
+use Rattle.books.proofs.books.slot.check_samples.Given as goal
+
+abbrev pub invariant-loop-k : goal.invariant-loop-k
+invariant-loop-k l = NoneBelow (sample_fault l.answer l.rows) 16 l.k
