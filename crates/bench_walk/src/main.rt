@@ -15,6 +15,7 @@ fn main(rt: HostRuntime) -> anyhow::Result<()> {
 }
 
 fn run(rt: &HostRuntime) -> anyhow::Result<()> {
+    // every argument has to be a number, and the last one counts
     let mut times: u32 = 1;
     for word in env::args(rt)?.skip(1) {
         times = word.parse::<u32>()?;
@@ -35,14 +36,14 @@ fn wanders(turn: u32) -> bool {
 
 // Sixteen readings with validities from 200 on, the last of which depends on the turn.
 fn list_of(turn: u32) -> Result<Readings, Refusal> {
-    let rows: [Proposal; 16] = std::array::from_fn(|k| Proposal {
-        id: k as u32 + 1,
-        work: 4,
-        validity: if k == 15 {
+    // `as`: a place is below 16, and a `try_from` would have an error that cannot come
+    let rows: [Proposal; 16] = std::array::from_fn(|k| {
+        let validity = if k == 15 {
             300 + turn % 50
         } else {
             200 + 6 * k as u32
-        },
+        };
+        Proposal::new(k as u32 + 1, 4, validity)
     });
     Readings::new(&rows)
 }

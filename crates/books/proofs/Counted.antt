@@ -1,12 +1,12 @@
 -- A row's age counts the slots since the sample of the value on show or, with none, since the row came on.
-use Rattle.std.proofs.Common.{◌≡◌, ℕ, zero, suc, ◌+◌, ◌-◌, ◌<◌, ◌≤◌, Bool, true, false, cond, eqb, Some, None, MatchBool, Option, sym, refl, subst, inl, inr, add-one, arith}
+use Rattle.std.proofs.Common.{◌≡◌, ℕ, zero, suc, ◌+◌, ◌-◌, ◌<◌, ◌≤◌, Bool, true, false, cond, eqb, Some, None, is_some, MatchBool, Option, sym, refl, subst, inl, inr, add-one, arith}
 use Rattle.std.proofs.lemmas.Bool.{both_ways, cases_Bool, cases_eq, eqb-false, eqb-true, le-leb, lt-leb}
 use Rattle.policy.specs.Course.{Course, names}
 use Rattle.readings.specs.declared.reading.Reading.{Reading}
 use Rattle.books.specs.declared.row.Job.{Job}
 use Rattle.books.specs.declared.row.Row.{Row}
 use Rattle.books.specs.Ages.{AgeMeans, Samples, ShownSince, Unfinished, runs}
-use Rattle.books.specs.Rows.{closed, come_on, grown, has_work, is_open, opened, ran}
+use Rattle.books.specs.Rows.{closed, come_on, grown, has_work, opened, ran}
 use Rattle.books.specs.Slots.{sampled, turned}
 
 -- a row through a slot, by whether it is sampled and whether it is run
@@ -126,7 +126,7 @@ module _ (c : Course) (k w : ℕ) (some_work : 0 < w) where
 
   step : (n b : ℕ) (rd : Reading) (shown : Bool) (age : ℕ) (o : Option Job) → rd.work ≡ w → Values b n shown age → Jobs b n o
       → (samp run : Bool) → names (c n).0 k ≡ samp → eqb (c n).1 (k + 1) ≡ run
-      → (samp ≡ true → is_open o ≡ false)
+      → (samp ≡ true → is_some o ≡ false)
       → (run ≡ true → has_work (cond samp (opened (record { reading = rd; shown = shown; age = age; job = o })) (record { reading = rd; shown = shown; age = age; job = o })).job ≡ true)
       → Tracks (n + 1) (turn_of samp run (record { reading = rd; shown = shown; age = age; job = o }))
   step n b rd shown age None e v g false false s r closed' works =
@@ -146,7 +146,7 @@ module _ (c : Course) (k w : ℕ) (some_work : 0 < w) where
       close_step rd shown (age + 1) (record { age = j.age + 1; left = j.left - 1 }) b n e (value_on b n age shown v)
       (goes_on b n j (j.left - 1) true g.0 s r (omega (arith, g.1))) (λ z. eqb-true (c n).1 (k + 1) r)
 
-  pub tracks_on : (n : ℕ) (r : Row) → Tracks n r → (names (c n).0 k ≡ true → is_open r.job ≡ false)
+  pub tracks_on : (n : ℕ) (r : Row) → Tracks n r → (names (c n).0 k ≡ true → is_some r.job ≡ false)
       → (eqb (c n).1 (k + 1) ≡ true → has_work (sampled (c n) k r).job ≡ true) → Tracks (n + 1) (turned (c n) k r)
   tracks_on n r t closed' works =
       step n t.bound r.reading r.shown r.age r.job t.work t.value t.job (names (c n).0 k) (eqb (c n).1 (k + 1)) refl refl closed' works

@@ -1,6 +1,6 @@
 -- Rows taken by their places.
-use Rattle.std.proofs.Common.{◌≡◌, ℕ, zero, suc, ◌+◌, ◌<◌, ◌≤◌, Bool, cond, List, [], ◌∷◌, ◌++◌, length, get_or, take, drop, set, refl, ap, ◌∙◌, append_assoc, append-nil, arith}
-use Rattle.std.proofs.lemmas.List.{at_drop_all, at_drop_more, drop-set-lt, take_all, take_more_set}
+use Rattle.std.proofs.Common.{◌≡◌, ℕ, zero, suc, ◌+◌, ◌<◌, Bool, cond, Some, Option, List, [], ◌∷◌, ◌++◌, length, get_or, take, drop, set, refl, ap, ◌∙◌, append_assoc, arith}
+use Rattle.std.proofs.lemmas.List.{at_drop_more, drop-set-lt, take_more_set}
 use Rattle.books.specs.declared.row.Row.{Row}
 use Rattle.books.specs.Slots.{each_from, lowest_from}
 
@@ -31,7 +31,7 @@ each_same f k (x ∷ xs) same = let a = same k x in let b = each_same f (k + 1) 
 -- the lowest that passes a test, among rows that were taken by their places
 pub lowest_each : (p : ℕ → Row → Bool) (f : ℕ → Row → Row) (k : ℕ) (rs : List Row) → lowest_from p k (each_from f k rs) ≡ lowest_from (λ j r. p j (f j r)) k rs
 lowest_each p f k [] = refl
-lowest_each p f k (r ∷ rs) = ap (λ (n : ℕ). cond (p k (f k r)) (k + 1) n) (lowest_each p f (k + 1) rs)
+lowest_each p f k (r ∷ rs) = ap (λ (n : Option ℕ). cond (p k (f k r)) (Some (k + 1)) n) (lowest_each p f (k + 1) rs)
 
 -- the rows below the k-th are taken, and the others are still to be
 abbrev pub TakenBelow : {X : Type 0} → (ℕ → X → X) → ℕ → List X → List X → Type 0
@@ -44,11 +44,4 @@ taken_more f k old rows d y h t e =
     let b = drop-set-lt (k + 1) rows k y (omega arith) in
     let g : each_from f k (drop k rows) ≡ f k (get_or rows k d) ∷ each_from f (k + 1) (drop (k + 1) rows) = at_drop_more (each_from f k) rows k d h in
     let i = append_assoc (take k rows) (y ∷ []) (each_from f (k + 1) (drop (k + 1) rows)) in
-    cc
-
-pub taken_all : {X : Type 0} (f : ℕ → X → X) (k : ℕ) (old rows : List X) → length rows ≤ k → TakenBelow f k old rows → rows ≡ each_from f 0 old
-taken_all f k old rows h t =
-    let a : each_from f k (drop k rows) ≡ [] = at_drop_all (each_from f k) rows k h in
-    let b = take_all k rows h in
-    let n = append-nil rows in
     cc

@@ -7,11 +7,13 @@ use Rattle.books.specs.declared.fault.Fault.{Fault}
 use Rattle.books.specs.declared.row.Job.{Job}
 use Rattle.books.specs.declared.row.Row.{Row}
 use Rattle.books.specs.Fresh.{Fresh}
-use Rattle.books.specs.Rows.{blank_row, closed, closed_by, grown, job_age, job_grown, job_ran, opened, ran, stale}
+use Rattle.books.specs.Rows.{blank_row, closed, closed_by, grown, job_age, opened, ran, stale}
 use Rattle.books.specs.Parts.{Spare, grown_fault}
-use Rattle.books.specs.Slots.{fault, first_fault, judged, or_else, run_fault, sample_fault, sampled, slot, stale_fault, turned, worked}
+use Rattle.books.specs.Slots.{fault, judged, run_fault, sample_fault, sampled, slot, stale_fault, turned, worked}
+use Rattle.readings.specs.Firsts.{first_of}
+use Rattle.std.specs.Option.{option_or}
 use Rattle.books.proofs.Each.{get_or_each, length_each}
-use Rattle.books.proofs.Firsts.{first_clear, first_none, or_clear}
+use Rattle.readings.proofs.Firsts.{first_clear, first_none, or_clear}
 
 -- what steps 1 and 2 leave of a row
 pub record WorkKeeps (r w : Row) : Type 0 where
@@ -27,12 +29,12 @@ sampling : (b : Bool) (r : Row) → WorkKeeps r (cond b (opened r) r)
 sampling true r = record { reading = refl; shown = refl; age = refl; job = omega arith }
 sampling false r = same r
 
-job_run : (o : Option Job) → job_age (job_ran o) ≡ job_age o
-job_run None = refl
-job_run (Some j) = refl
+job_run : (r : Row) (o : Option Job) → r.job ≡ o → job_age (ran r).job ≡ job_age r.job
+job_run r None e = rw e refl
+job_run r (Some j) e = rw e refl
 
 running : (b : Bool) (r : Row) → WorkKeeps r (cond b (ran r) r)
-running true r = let e = job_run r.job in record { reading = refl; shown = refl; age = refl; job = omega arith }
+running true r = let e = job_run r r.job refl in record { reading = refl; shown = refl; age = refl; job = omega arith }
 running false r = same r
 
 pub work_keeps : (a : Answer) (k : ℕ) (r : Row) → WorkKeeps r (worked a k r)
@@ -41,9 +43,9 @@ work_keeps a k r =
     let w = running (eqb a.1 (k + 1)) (sampled a k r) in
     record { reading = w.reading ∙ s.reading; shown = w.shown ∙ s.shown; age = w.age ∙ s.age; job = omega arith }
 
-job_older : (o : Option Job) → job_age (job_grown o) ≤ job_age o + 1
-job_older None = omega arith
-job_older (Some j) = omega arith
+job_older : (r : Row) (o : Option Job) → r.job ≡ o → job_age (grown r).job ≤ job_age r.job + 1
+job_older r None e = rw e (omega arith)
+job_older r (Some j) e = rw e (omega arith)
 
 -- what closing leaves of a row whose job is no older than it
 pub record CloseKeeps (r w : Row) : Type 0 where
@@ -67,7 +69,7 @@ close_keeps r h = closing r r.job refl h
 pub turn_keeps : (a : Answer) (k : ℕ) (r : Row) → job_age r.job ≤ r.age → CloseKeeps (judged a k r) (turned a k r)
 turn_keeps a k r h =
     let w = work_keeps a k r in
-    let o = job_older (worked a k r).job in
+    let o = job_older (worked a k r) (worked a k r).job refl in
     close_keeps (judged a k r) (omega arith)
 
 pub clear_flag : (b : Bool) (x : Fault) → cond b (Some x) None ≡ None → b ≡ false
@@ -78,8 +80,8 @@ clear_flag false x e = refl
 pub judged_fresh : (a : Answer) (rs : List Row) → fault a rs ≡ None → (k : ℕ) → k < length rs
     → (judged a k (get_or rs k blank_row)).age ≤ (judged a k (get_or rs k blank_row)).reading.validity
 judged_fresh a rs e k h =
-    let later = (or_clear (first_fault (sample_fault a rs) 0 16) (or_else (run_fault a rs) (first_fault (stale_fault a rs) 0 (length rs))) e).1 in
-    let late = (or_clear (run_fault a rs) (first_fault (stale_fault a rs) 0 (length rs)) later).1 in
+    let later = (or_clear (first_of (sample_fault a rs) 0 16) (option_or (run_fault a rs) (first_of (stale_fault a rs) 0 (length rs))) e).1 in
+    let late = (or_clear (run_fault a rs) (first_of (stale_fault a rs) 0 (length rs)) later).1 in
     let clear : stale_fault a rs k ≡ None = first_clear (stale_fault a rs) 0 (length rs) late k (omega arith) (omega arith) in
     let r : Row = judged a k (get_or rs k blank_row) in
     ltb-false r.reading.validity r.age (clear_flag (stale r) _ clear)
@@ -147,7 +149,7 @@ slot_spare a rs f n s p k h =
     rw (slot_row a rs k i) (omega arith)
 
 -- and none is stale in it
-pub spare_calm : (rs : List Row) (n : ℕ) → Spare rs n → 0 < n → None ≡ first_fault (grown_fault rs) 0 (length rs)
+pub spare_calm : (rs : List Row) (n : ℕ) → Spare rs n → 0 < n → None ≡ first_of (grown_fault rs) 0 (length rs)
 spare_calm rs n s p =
     first_none (grown_fault rs) 0 (length rs) (λ k h.
     let r : Row = get_or rs k blank_row in

@@ -2,7 +2,6 @@ pub mod Ages
 pub mod Began
 pub mod Counted
 pub mod Each
-pub mod Firsts
 pub mod Held
 pub mod Keeps
 mod Named

@@ -1,6 +1,6 @@
 -- All rows through a slot: the samples and the run first, and then the slot passes, from the last row to the first.
-use Rattle.std.proofs.Common.{◌≡◌, ℕ, ◌+◌, ◌<◌, ◌≤◌, true, false, refl, cond, unwrap_or, Some, None, Option, List, length, get_or, drop, set, sym, ap, ◌∙◌, inl, inr, arith}
-use Rattle.std.proofs.lemmas.List.{at_drop_all, at_drop_more, get_or-set_other, get_or-set_same, length-set, same_lists, get_or_default}
+use Rattle.std.proofs.Common.{◌≡◌, ℕ, ◌+◌, ◌<◌, true, false, refl, cond, Some, None, Option, List, length, get_or, drop, set, sym, ap, ◌∙◌, inl, inr, arith}
+use Rattle.std.proofs.lemmas.List.{at_drop_more, get_or-set_other, get_or-set_same, length-set, same_lists, get_or_default}
 use Rattle.std.proofs.lemmas.Bool.{cases_eq, eq-eqb, ne_eqb}
 use Rattle.std.specs.Option.{option_or}
 use Rattle.policy.specs.Course.{Answer}
@@ -13,30 +13,24 @@ use Rattle.books.proofs.Keeps.{work_keeps}
 
 -- s is the lowest row whose value goes on show, if it is among the first k
 abbrev pub ShownBelow : ℕ → List Row → Option ℕ → Type 0
-ShownBelow k old s = lowest_from finishes 0 old ≡ unwrap_or s (lowest_from finishes k (drop k old))
+ShownBelow k old s = lowest_from finishes 0 old ≡ option_or s (lowest_from finishes k (drop k old))
 
 -- one row more: its value goes on show, unless one above it does
 pub shown_here : (k : ℕ) (old : List Row) (s t : Option ℕ) → k < length old → ShownBelow k old s → true ≡ finishes k (get_or old k blank_row)
     → t ≡ option_or s (Some (k + 1)) → ShownBelow (k + 1) old t
 shown_here k old s t h e f g =
-    let rest : ℕ = lowest_from finishes (k + 1) (drop (k + 1) old) in
-    let lowest : lowest_from finishes k (drop k old) ≡ cond (finishes k (get_or old k blank_row)) (k + 1) rest = at_drop_more (lowest_from finishes k) old k blank_row h in
-    let here : lowest_from finishes k (drop k old) ≡ k + 1 = cc in
-    e ∙ ap (unwrap_or s) here ∙ (elim s as (λ (o : Option ℕ). unwrap_or o (k + 1) ≡ unwrap_or (option_or o (Some (k + 1))) rest) [ Some n ↦ refl | None ↦ refl ]) ∙ ap (λ (o : Option ℕ). unwrap_or o rest) (sym g)
+    let rest : Option ℕ = lowest_from finishes (k + 1) (drop (k + 1) old) in
+    let lowest : lowest_from finishes k (drop k old) ≡ cond (finishes k (get_or old k blank_row)) (Some (k + 1)) rest = at_drop_more (lowest_from finishes k) old k blank_row h in
+    let here : lowest_from finishes k (drop k old) ≡ Some (k + 1) = cc in
+    e ∙ ap (option_or s) here ∙ (elim s as (λ (o : Option ℕ). option_or o (Some (k + 1)) ≡ option_or (option_or o (Some (k + 1))) rest) [ Some n ↦ refl | None ↦ refl ]) ∙ ap (λ (o : Option ℕ). option_or o rest) (sym g)
 
 -- or it does not
 pub shown_not : (k : ℕ) (old : List Row) (s : Option ℕ) → k < length old → ShownBelow k old s → false ≡ finishes k (get_or old k blank_row) → ShownBelow (k + 1) old s
 shown_not k old s h e f =
-    let rest : ℕ = lowest_from finishes (k + 1) (drop (k + 1) old) in
-    let lowest : lowest_from finishes k (drop k old) ≡ cond (finishes k (get_or old k blank_row)) (k + 1) rest = at_drop_more (lowest_from finishes k) old k blank_row h in
+    let rest : Option ℕ = lowest_from finishes (k + 1) (drop (k + 1) old) in
+    let lowest : lowest_from finishes k (drop k old) ≡ cond (finishes k (get_or old k blank_row)) (Some (k + 1)) rest = at_drop_more (lowest_from finishes k) old k blank_row h in
     let later : lowest_from finishes k (drop k old) ≡ rest = cc in
-    e ∙ ap (unwrap_or s) later
-
--- and at the end
-pub shown_all : (k : ℕ) (old : List Row) (s : Option ℕ) → length old ≤ k → ShownBelow k old s → unwrap_or s 0 ≡ lowest_from finishes 0 old
-shown_all k old s h e =
-    let none : lowest_from finishes k (drop k old) ≡ 0 = at_drop_all (lowest_from finishes k) old k h in
-    ap (unwrap_or s) (sym none) ∙ sym e
+    e ∙ ap (option_or s) later
 
 -- to run no row changes none
 pub run_none : (a : Answer) (rs : List Row) → ((k : ℕ) → k < length rs → a.1 ≡ k + 1 → ⊥) → rs ≡ each_from (run a) 0 rs
@@ -74,5 +68,5 @@ worked_young a rs young k h =
 pub turned_is : (a : Answer) (rs mid out : List Row) → mid ≡ each_from (worked a) 0 rs → out ≡ each_from passed 0 mid → out ≡ slot a rs
 turned_is a rs mid out e f = f ∙ ap (each_from passed 0) e ∙ each_twice passed (worked a) 0 rs
 
-pub shown_is : (a : Answer) (rs mid : List Row) (s : ℕ) → mid ≡ each_from (worked a) 0 rs → s ≡ lowest_from finishes 0 mid → s ≡ shown_row a rs
+pub shown_is : (a : Answer) (rs mid : List Row) (s : Option ℕ) → mid ≡ each_from (worked a) 0 rs → s ≡ lowest_from finishes 0 mid → s ≡ shown_row a rs
 shown_is a rs mid s e f = f ∙ ap (lowest_from finishes 0) e ∙ lowest_each finishes (worked a) 0 rs

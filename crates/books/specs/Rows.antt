@@ -1,8 +1,8 @@
 -- What the books keep of a row, and what each step of a slot does to it.
-use Rattle.std.specs.Prelude.{ℕ, ◌+◌, ◌-◌, Bool, true, false, if◌then◌else◌, not, ◌&&◌, List, Some, None, Option, ◌==◌, nat_lt}
+use Rattle.std.specs.Prelude.{ℕ, ◌+◌, ◌-◌, Bool, true, false, if◌then◌else◌, not, ◌&&◌, List, Some, None, Option, option_map, is_some, ◌==◌, nat_lt}
 use Rattle.std.specs.Bool.{beq}
 use Rattle.std.specs.Cmp.Lexicographic.{pointwise}
-use Rattle.std.specs.Option.{option_eq}
+use Rattle.std.specs.Option.{option_eq, option_map_or}
 use Rattle.readings.specs.declared.reading.Reading.{Reading}
 use Rattle.readings.specs.Ranges.{blank}
 use Rattle.books.specs.declared.fault.Fault.{Fault}
@@ -24,21 +24,25 @@ blank_row = come_on blank
 abbrev pub opened : Row → Row
 opened r = record { reading = r.reading; shown = r.shown; age = r.age; job = Some (record { age = 0; left = r.reading.work }) }
 
-abbrev pub job_ran : Option Job → Option Job
-job_ran None = None
-job_ran (Some j) = Some (record { age = j.age; left = j.left - 1 })
-
 -- a row is run: its job loses one slot of work left
 abbrev pub ran : Row → Row
-ran r = record { reading = r.reading; shown = r.shown; age = r.age; job = job_ran r.job }
-
-abbrev pub job_grown : Option Job → Option Job
-job_grown None = None
-job_grown (Some j) = Some (record { age = j.age + 1; left = j.left })
+ran r =
+    record {
+      reading = r.reading;
+      shown = r.shown;
+      age = r.age;
+      job = option_map (λ (j : Job). record { age = j.age; left = j.left - 1 }) r.job;
+    }
 
 -- a slot passes: all ages grow by one
 abbrev pub grown : Row → Row
-grown r = record { reading = r.reading; shown = r.shown; age = r.age + 1; job = job_grown r.job }
+grown r =
+    record {
+      reading = r.reading;
+      shown = r.shown;
+      age = r.age + 1;
+      job = option_map (λ (j : Job). record { age = j.age + 1; left = j.left }) r.job;
+    }
 
 abbrev pub closed_by : Row → Option Job → Row
 closed_by r None = r
@@ -48,25 +52,17 @@ closed_by r (Some j) = if j.left == 0 then record { reading = r.reading; shown =
 abbrev pub closed : Row → Row
 closed r = closed_by r r.job
 
--- a job is open
-abbrev pub is_open : Option Job → Bool
-is_open None = false
-is_open (Some j) = true
-
 -- a job is open, and no work is left
 abbrev pub finished : Option Job → Bool
-finished None = false
-finished (Some j) = j.left == 0
+finished o = option_map_or (λ (j : Job). j.left == 0) o false
 
 -- a job is open, and work is left
 abbrev pub has_work : Option Job → Bool
-has_work None = false
-has_work (Some j) = not (j.left == 0)
+has_work o = option_map_or (λ (j : Job). not (j.left == 0)) o false
 
 -- the age of a job, 0 for none
 abbrev pub job_age : Option Job → ℕ
-job_age None = 0
-job_age (Some j) = j.age
+job_age o = option_map_or (λ (j : Job). j.age) o 0
 
 -- an age that exceeds the validity is stale; one that equals it is fresh
 abbrev pub stale : Row → Bool
@@ -74,7 +70,7 @@ stale r = nat_lt r.reading.validity r.age
 
 -- what is wrong with a row, number n, in a step of a slot
 abbrev pub row_fault : Step → Row → ℕ → Option Fault
-row_fault Sample r n = if is_open r.job then Some (JobRule n) else None
+row_fault Sample r n = if is_some r.job then Some (JobRule n) else None
 row_fault Run r n = if has_work r.job then None else Some (JobRule n)
 row_fault Judge r n = if stale r then Some (Stale n) else None
 

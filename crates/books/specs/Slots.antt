@@ -1,6 +1,8 @@
 -- A slot: an answer taken through its five steps, and the first fault on the way.
 use Rattle.std.specs.Prelude.{ℕ, zero, suc, ◌+◌, ◌-◌, Bool, if◌then◌else◌, not, List, [], ◌∷◌, length, Some, None, Option, ◌==◌, nat_le, nat_lt, slice_index_or}
+use Rattle.std.specs.Option.{option_or}
 use Rattle.policy.specs.Course.{Answer, Course, names}
+use Rattle.readings.specs.Firsts.{first_of}
 use Rattle.books.specs.declared.fault.Fault.{Fault}
 use Rattle.books.specs.declared.fault.Fault.TheVariants.{JobRule}
 use Rattle.books.specs.declared.fault.Step.TheVariants.{Sample, Run, Judge}
@@ -40,23 +42,14 @@ judged_rows a rs = each_from (judged a) 0 rs
 abbrev pub slot : Answer → List Row → List Row
 slot a rs = each_from (turned a) 0 rs
 
--- the lowest row, from row k + 1 on, that passes a test, or 0
-abbrev pub lowest_from : (ℕ → Row → Bool) → ℕ → List Row → ℕ
-lowest_from p k [] = 0
-lowest_from p k (r ∷ rs) = if p k r then k + 1 else lowest_from p (k + 1) rs
+-- the lowest row, from row k + 1 on, that passes a test, if one does
+abbrev pub lowest_from : (ℕ → Row → Bool) → ℕ → List Row → Option ℕ
+lowest_from p k [] = None
+lowest_from p k (r ∷ rs) = if p k r then Some (k + 1) else lowest_from p (k + 1) rs
 
--- the row whose value goes on show in a slot, or 0
-abbrev pub shown_row : Answer → List Row → ℕ
+-- the row whose value goes on show in a slot, if one does
+abbrev pub shown_row : Answer → List Row → Option ℕ
 shown_row a rs = lowest_from (λ k r. finished (judged a k r).job) 0 rs
-
-abbrev pub or_else : Option Fault → Option Fault → Option Fault
-or_else None g = g
-or_else (Some f) g = Some f
-
--- the first fault among n rows from row k + 1 on
-unfoldable pub first_fault : (ℕ → Option Fault) → ℕ → ℕ → Option Fault
-first_fault f k zero = None
-first_fault f k (suc n) = or_else (f k) (first_fault f (k + 1) n)
 
 -- step 1: to sample a row with an open job, or a row that the list lacks
 abbrev pub sample_fault : Answer → List Row → ℕ → Option Fault
@@ -78,7 +71,7 @@ stale_fault a rs k = row_fault Judge (judged a k (slice_index_or rs k blank_row)
 
 -- the first fault of a slot, in the order of its steps, lowest row first; an answer can name 16 rows
 abbrev pub fault : Answer → List Row → Option Fault
-fault a rs = or_else (first_fault (sample_fault a rs) 0 16) (or_else (run_fault a rs) (first_fault (stale_fault a rs) 0 (length rs)))
+fault a rs = option_or (first_of (sample_fault a rs) 0 16) (option_or (run_fault a rs) (first_of (stale_fault a rs) 0 (length rs)))
 
 -- the books n slots ahead by a course
 abbrev pub books_at : Course → List Row → ℕ → List Row

@@ -25,7 +25,7 @@ pub enum Step {
 }
 
 impl Fault {
-    // The refusal of a fault in a slot: 11 for the job rule, 12 for a stale row.
+    // The refusal of a fault in a slot: 11 for the job rule, 12 for a stale row. No `From`, since the slot is needed too.
     pub fn refusal(self, slot: u16) -> Refusal
         ensures { told result ≡ fault_told self slot }
     {

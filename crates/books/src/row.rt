@@ -1,4 +1,4 @@
-ghost use Rattle.std.specs.Prelude.{◌≡◌, ◌<◌, ◌==◌};
+ghost use Rattle.std.specs.Prelude.{◌≡◌, ◌-◌, ◌<◌, ◌==◌};
 ghost use Rattle.books.specs.Rows.{closed, come_on, finished, grown, job_age, opened, ran, row_fault};
 ghost use Rattle.std.specs.Result.{result_err};
 ghost use Rattle.books.specs.declared.fault.Step.TheVariants.{Judge};
@@ -15,7 +15,8 @@ pub struct Job {
 }
 
 // What the books keep of a row: its reading, whether a value is on show, the row's age, and its open job.
-// The age counts the slots since the sample of the value on show or, with none, since the row came on.
+// The age counts the slots since the sample of the value on show or, with none, since the row came on. That ages have
+// room to grow is asked where they grow and is no fact of the type: its fields are public, and any number may stand there.
 #[derive(Clone, Copy, PartialEq, Eq, Debug)]
 pub struct Row {
     // the first field, since two rows are told apart by their ages most often
@@ -64,6 +65,13 @@ impl Row {
         later.check(Step::Judge, row)
     }
 
+    // The slots for which the row stays valid: none where its age is past its validity.
+    pub(crate) fn margin(&self) -> u16
+        ensures { result ≡ self.now.reading.validity - self.now.age }
+    {
+        self.reading.validity.saturating_sub(self.age)
+    }
+
     // Whether the row is that of an id.
     pub(crate) fn has_id(&self, id: u16) -> bool
         ensures { result ≡ (self.now.reading.id == id) }
@@ -85,11 +93,8 @@ impl Row {
     pub(crate) fn run(&mut self)
         ensures { self.new ≡ ran self.old }
     {
-        if let Some(job) = self.job {
-            self.job = Some(Job {
-                age: job.age,
-                left: job.left.saturating_sub(1),
-            });
+        if let Some(job) = &mut self.job {
+            job.left = job.left.saturating_sub(1);
         }
     }
 
@@ -100,11 +105,8 @@ impl Row {
         ensures { self.new ≡ grown self.old }
     {
         self.age += 1;
-        if let Some(job) = self.job {
-            self.job = Some(Job {
-                age: job.age + 1,
-                left: job.left,
-            });
+        if let Some(job) = &mut self.job {
+            job.age += 1;
         }
     }
 

@@ -1,10 +1,11 @@
 -- What the rules give for the examples that are not walks.
-use Rattle.std.proofs.Common.{◌≡◌, ℕ, zero, suc, ◌<◌, true, false, List, [], ◌∷◌, length, get_or, refl, add-one, lit<}
+use Rattle.std.proofs.Common.{◌≡◌, ℕ, zero, suc, ◌<◌, true, false, List, [], ◌∷◌, length, get_or, Some, refl, add-one, lit<}
 use Rattle.std.proofs.lemmas.Bool.{both_ways}
 use borrow.Author.Count.{below_more, below_none}
 use Rattle.policy.specs.Course.{Course}
 use Rattle.periodic.specs.Rows.{periodic_course}
-use Rattle.books.specs.Slots.{books_at, first_fault}
+use Rattle.books.specs.Slots.{books_at}
+use Rattle.readings.specs.Firsts.{first_of}
 use Rattle.walk.specs.Crossings.{MayCross}
 use Rattle.walk.specs.Finishes.{FirstFinish}
 use Rattle.examples.specs.Given.{CrossingTest, JustValid, new_books, readings_x, readings_y, start}
@@ -50,8 +51,8 @@ third_y = record { here = refl; not_before = each_below _ 6 ((((((tt, refl), ref
 finished_y : (k : ℕ) → k < length readings_y → FirstFinish course_y (new_books readings_y) k (get_or finishes_y k 0)
 finished_y = each_below _ 3 (((tt, first_y), second_y), third_y)
 
-pub age_twelve : JustValid course_y readings_y 11 2 12 3
-unfolding first_fault
+pub age_twelve : JustValid course_y readings_y 11 2 12 (Some 3)
+unfolding first_of
 age_twelve = record { reached = refl; equal = refl; calm = refl; shows = refl }
 
 -- row 2 has an open job

@@ -1,5 +1,5 @@
 -- The rules give one ending only for each example.
-use Rattle.std.proofs.Common.{◌≡◌, ℕ, ◌+◌, ◌<◌, Bool, true, false, List, [], ◌∷◌, length, get_or, Ok, Err, Result, sym, refl, ap, ◌∙◌, subst, inl, inr}
+use Rattle.std.proofs.Common.{◌≡◌, ℕ, ◌+◌, ◌<◌, Bool, true, false, List, [], ◌∷◌, length, get_or, Some, Option, Ok, Err, Result, sym, refl, ap, ◌∙◌, subst, inl, inr}
 use Rattle.std.proofs.lemmas.Bool.{both_ways, cases_order}
 use Rattle.std.proofs.lemmas.Bool.Decides.{same_from_decides}
 use Rattle.readings.specs.Ranges.{blank}
@@ -53,8 +53,8 @@ finishes_only (Ok (Finishes first second third)) v =
     cc
 finishes_only _ v = absurd v
 
-slot_only : (e : Result Ending Refusal) → SlotEnds course_y readings_y 11 2 12 e → e ≡ Ok (Shown 3)
-slot_only (Ok (Shown row)) v = ap (λ (r : ℕ). Ok (Shown r)) v.shows
+slot_only : (e : Result Ending Refusal) → SlotEnds course_y readings_y 11 2 12 e → e ≡ Ok (Shown (Some 3))
+slot_only (Ok (Shown row)) v = ap (λ (r : Option ℕ). Ok (Shown r)) v.shows
 slot_only _ v = absurd v
 
 -- first finishes in one list or in another are the same, so that the test is
@@ -90,7 +90,7 @@ the_answer HalfHalfOfX = Err (JobRule 10 3)
 the_answer MoreLessOfX = Ok (Granted 31 28)
 the_answer FinishesOfX = Ok (Finishes 1 3 6)
 the_answer MoreLessOfY = Ok (Granted 7 6)
-the_answer AgeTwelveOfY = Ok (Shown 3)
+the_answer AgeTwelveOfY = Ok (Shown (Some 3))
 the_answer AsleepOverX = Err (Stale 5 1)
 the_answer DoubtingOverX = Err NoRepeat
 the_answer CrossingAtOne = Ok (Says false)

@@ -1,37 +1,24 @@
 -- What the parts of a run of an example come to.
-use Rattle.std.proofs.Common.{◌≡◌, ℕ, ◌+◌, ◌↔◌, Bool, IsTrue, List, get_or, Ok, Err, Result, sym, ap, ◌∙◌, subst, add-one, arith}
-use Rattle.readings.specs.Refusals.{Told, told}
+use Rattle.std.proofs.Common.{◌≡◌, ℕ, ◌↔◌, Bool, IsTrue, List, Ok, Err, Result, sym, ◌∙◌, subst, arith}
+use Rattle.readings.specs.Refusals.{Told}
 use Rattle.readings.specs.declared.reading.Reading.{Reading}
 use Rattle.readings.specs.declared.refusal.Refusal.{Refusal}
-use Rattle.policy.specs.Course.{Answer, Course}
 use Rattle.planner.specs.Periods.{more_less}
 use Rattle.planner.specs.declared.timing.Timing.{Timing}
 use Rattle.periodic.specs.Rows.{periodic_course}
 use Rattle.periodic.specs.declared.row.Row as keeps
-use Rattle.books.specs.Held.{rows_of}
-use Rattle.books.specs.Slots.{books_at, slot}
-use Rattle.books.specs.declared.books.Books.{Books}
+use Rattle.books.specs.Slots.{books_at}
 use Rattle.books.specs.declared.row.Row.{Row}
 use Rattle.walk.specs.Crossings.{MayCross}
 use Rattle.walk.specs.Plans.{Accepts}
 use Rattle.walk.specs.Walks.{Outcome, Walks, granted, refused}
-use Rattle.examples.specs.Given.{FinishEnds, MoreLessGives, RulesGive, XToY, new_books, periodic, readings_x, readings_y, start}
-use Rattle.examples.specs.Runs.{Faulty, SlotAnswer, Stands}
+use Rattle.examples.specs.Given.{MoreLessGives, RulesGive, XToY, new_books, periodic, readings_x, readings_y, start}
+use Rattle.examples.specs.Runs.{Faulty, SlotAnswer}
 use Rattle.examples.specs.declared.asked.Asked.TheVariants.{AgeTwelveOfY}
 use Rattle.examples.specs.declared.ending.Ending.{Ending}
-use Rattle.examples.specs.declared.ending.Ending.TheVariants.{Finishes, Says}
+use Rattle.examples.specs.declared.ending.Ending.TheVariants.{Says}
 use Rattle.examples.proofs.Gives.{age_twelve}
 use Rattle.examples.proofs.Walked.{calm_x, calm_y, given_x, given_y, known, timings_x, timings_y, walks_x, walks_y}
-
--- one slot more
-pub stood : (c : Course) (ds : List Reading) (n : ℕ) (old new : Books) (d e : Course) (a : Answer) → Stands c ds n old d → a ≡ d 0
-    → rows_of new ≡ slot a (rows_of old) → ((m : ℕ) → e m ≡ d (m + 1)) → Stands c ds (n + 1) new e
-stood c ds n old new d e a s is taken on =
-    let here : a ≡ c n = is ∙ s.course_is 0 ∙ ap c (omega arith) in
-    record {
-      books_are = rw add-one (taken ∙ ap (slot a) s.books_are ∙ ap (λ (b : Answer). slot b (books_at c (new_books ds) n)) here);
-      course_is = λ m. on m ∙ s.course_is (m + 1) ∙ ap c (omega arith);
-    }
 
 -- a policy stands at the start of the timings that More-Less gives
 abbrev pub Begins : List Reading → List keeps.Row → Type 0
@@ -64,12 +51,6 @@ no_refusal_x ds p t e b f = apart 31 28 t (settled readings_x timings_x given_x 
 
 pub no_refusal_y : (ds : List Reading) (p : List keeps.Row) (t : Told) → ds ≡ readings_y → Begins ds p → Refuses t ds p → ⊥
 no_refusal_y ds p t e b f = apart 7 6 t (settled readings_y timings_y given_y ds p e b (Refuses t) f (granted 7 6) walks_y)
-
-pub finishes_told : (xs : List Reading) (p : List keeps.Row) (fs all : List ℕ) → xs ≡ readings_x → Begins xs p → fs ≡ all → Accepts (periodic_course p) (new_books xs) all
-    → MoreLessGives readings_x (λ ts. FinishEnds (periodic_course (start ts)) readings_x (Ok (Finishes (get_or fs 0 0) (get_or fs 1 0) (get_or fs 2 0))))
-finishes_told xs p fs all e b told accepts =
-    let a = settled readings_x timings_x given_x xs p e b (λ ds q. Accepts (periodic_course q) (new_books ds) fs) (subst (Accepts (periodic_course p) (new_books xs)) (sym told) accepts) in
-    (timings_x, (given_x, (a.finish 0 (omega arith), a.finish 1 (omega arith), a.finish 2 (omega arith))))
 
 pub slot_told : (ds : List Reading) (p : List keeps.Row) → ds ≡ readings_y → Begins ds p → (r : Result Ending Refusal) → SlotAnswer (periodic_course p) ds 11 r → RulesGive AgeTwelveOfY r
 unfolding RulesGive

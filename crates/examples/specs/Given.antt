@@ -1,5 +1,5 @@
 -- What the rules give for each example.
-use Rattle.std.specs.Prelude.{◌≡◌, ℕ, ◌<◌, ◌↔◌, Bool, true, false, IsTrue, List, [], ◌∷◌, map, length, slice_index, slice_index_or, None, Ok, Err, Result}
+use Rattle.std.specs.Prelude.{◌≡◌, ℕ, ◌<◌, ◌↔◌, Bool, true, false, IsTrue, List, [], ◌∷◌, map, length, slice_index, slice_index_or, None, Option, Ok, Err, Result}
 use Rattle.readings.specs.Ranges.{blank}
 use Rattle.readings.specs.Refusals.{told}
 use Rattle.readings.specs.declared.reading.Reading.{Reading}
@@ -69,7 +69,7 @@ FinishEnds c ds _ = ⊥
 
 -- in a slot of a course row k + 1 is judged at an age that equals its validity, the slot has no fault, and it puts
 -- a value of this row on show
-pub record JustValid (c : Course) (ds : List Reading) (slot k age row : ℕ) : Type 0 where
+pub record JustValid (c : Course) (ds : List Reading) (slot k age : ℕ) (row : Option ℕ) : Type 0 where
   pub reached : (judged (c slot) k (slice_index_or (books_at c (new_books ds) slot) k blank_row)).age ≡ age
   pub equal : age ≡ (slice_index_or ds k blank).validity
   pub calm : fault_at c (new_books ds) slot ≡ None

@@ -15,10 +15,11 @@ use planner::timings::Timings;
 use policy::policy::Policy;
 use readings::list::Readings;
 use readings::refusal::Refusal;
+use std::fmt;
 use walk::plan::Accepted;
 
-// An example.
-// A match, not a table of closures: promises go by the case, and runs of different policies have no one type.
+// An example. A match on it and no table of closures: promises go by the case. An instant of a crossing is no field, since
+// what is expected is said of these three alone.
 #[derive(Clone, Copy)]
 pub enum Asked {
     HalfHalfOfX,
@@ -47,22 +48,6 @@ impl Asked {
         Asked::CrossingAtSeven,
     ];
 
-    pub fn title(self) -> &'static str {
-        match self {
-            Asked::HalfHalfOfX => "walk of list X by Half-Half",
-            Asked::MoreLessOfX => "walk of list X by More-Less",
-            Asked::FinishesOfX => "first finishes of list X by More-Less",
-            Asked::MoreLessOfY => "walk of list Y by More-Less",
-            Asked::AgeTwelveOfY => "slot 11 of list Y by More-Less, where row 3 comes to age 12",
-            Asked::AsleepOverX => "walk of list X by a policy that never samples or runs",
-            Asked::DoubtingOverX =>
-                "walk of list X by More-Less with a comparison that always says no",
-            Asked::CrossingAtOne => "may X cross to Y at instant 1, with a job open",
-            Asked::CrossingAtSix => "may X cross to Y at instant 6",
-            Asked::CrossingAtSeven => "may X cross to Y at instant 7",
-        }
-    }
-
     // The one answer that the rules give for the example.
     #[tactic(auto, using(crate::proofs::Only::one_answer))]
     pub fn expected(self) -> Result<Ending, Refusal>
@@ -76,7 +61,7 @@ impl Asked {
             }),
             Asked::FinishesOfX => Ok(Ending::Finishes(1, 3, 6)),
             Asked::MoreLessOfY => Ok(Ending::Granted { mark: 7, length: 6 }),
-            Asked::AgeTwelveOfY => Ok(Ending::Shown(3)),
+            Asked::AgeTwelveOfY => Ok(Ending::Shown(Some(3))),
             Asked::AsleepOverX => Err(Refusal::Stale { slot: 5, row: 1 }),
             Asked::DoubtingOverX => Err(Refusal::NoRepeat),
             Asked::CrossingAtOne => Ok(Ending::Says(false)),
@@ -114,6 +99,26 @@ impl Asked {
     }
 }
 
+// What is asked.
+impl fmt::Display for Asked {
+    fn fmt<W: fmt::Write>(&self, f: &mut fmt::Formatter<W>) -> fmt::Result {
+        let title = match self {
+            Asked::HalfHalfOfX => "walk of list X by Half-Half",
+            Asked::MoreLessOfX => "walk of list X by More-Less",
+            Asked::FinishesOfX => "first finishes of list X by More-Less",
+            Asked::MoreLessOfY => "walk of list Y by More-Less",
+            Asked::AgeTwelveOfY => "slot 11 of list Y by More-Less, where row 3 comes to age 12",
+            Asked::AsleepOverX => "walk of list X by a policy that never samples or runs",
+            Asked::DoubtingOverX =>
+                "walk of list X by More-Less with a comparison that always says no",
+            Asked::CrossingAtOne => "may X cross to Y at instant 1, with a job open",
+            Asked::CrossingAtSix => "may X cross to Y at instant 6",
+            Asked::CrossingAtSeven => "may X cross to Y at instant 7",
+        };
+        write!(f, "{title}")
+    }
+}
+
 fn half_half(list: &Readings) -> Periodic
     ensures { kept_of result ≡ start (half_half (readings_of list.now)) }
 {
@@ -146,7 +151,8 @@ fn finishes_of_x() -> Result<Ending, Refusal>
     Ok(Ending::Finishes(finishes[0], finishes[1], finishes[2]))
 }
 
-// The books of a list after so many slots of a policy, and the policy there.
+// The books of a list after so many slots of a policy, and the policy there: a pair and no struct, since it is taken
+// apart where it is handed out.
 fn after<P: Policy>(list: &Readings, mut policy: P, slots: u16) -> Result<(Books, P), Refusal>
     ensures { AfterAnswer (λ q. P.Policy.course (P.Policy.position q)) (P.Policy.course (P.Policy.position policy)) (readings_of list.now) slots result }
 {

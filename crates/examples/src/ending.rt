@@ -6,10 +6,10 @@ use std::fmt;
 pub enum Ending {
     // a walk was granted with this mark and length
     Granted { mark: u16, length: u16 },
-    // the first finishes of three rows
+    // the first finishes of three rows: no array, since the rules speak of each
     Finishes(u16, u16, u16),
-    // a slot put a value of this row on show, or none for 0
-    Shown(u8),
+    // a slot without a fault put a value of this row on show, if of any
+    Shown(Option<u8>),
     // a test said yes or no
     Says(bool),
 }
@@ -19,7 +19,8 @@ impl fmt::Display for Ending {
         match self {
             Ending::Granted { mark, length } => write!(f, "mark {mark}, length {length}"),
             Ending::Finishes(first, second, third) => write!(f, "{first}, {second}, {third}"),
-            Ending::Shown(row) => write!(f, "fresh, row {row} shown"),
+            Ending::Shown(Some(row)) => write!(f, "fresh, row {row} shown"),
+            Ending::Shown(None) => write!(f, "fresh"),
             Ending::Says(true) => write!(f, "yes"),
             Ending::Says(false) => write!(f, "no"),
         }
@@ -27,7 +28,7 @@ impl fmt::Display for Ending {
 }
 
 // What an example is answered with, as it is written: an ending, or a refusal's number, for a fault with its slot
-// and row.
+// and row. A newtype, since a `Result` cannot be given a `Display`.
 #[derive(Clone, Copy)]
 pub struct Answer(pub Result<Ending, Refusal>);
 
@@ -36,8 +37,7 @@ impl fmt::Display for Answer {
         match self.0 {
             Ok(ending) => write!(f, "{ending}"),
             Err(refusal) => {
-                let number = refusal.number();
-                write!(f, "no {number}")?;
+                write!(f, "{refusal}")?;
                 match refusal {
                     Refusal::JobRule { slot, row } | Refusal::Stale { slot, row } => write!(
                         f,

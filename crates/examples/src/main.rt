@@ -18,7 +18,6 @@ fn main(rt: HostRuntime) -> anyhow::Result<()> {
 fn run(rt: &HostRuntime) -> anyhow::Result<()> {
     let mut out = BufWriter::new(rt.alloc(), rt.stdout())?;
     for asked in Asked::ALL {
-        let title = asked.title();
         let answered = asked.answer();
         let verdict = if answered == asked.expected() {
             "as expected"
@@ -26,7 +25,7 @@ fn run(rt: &HostRuntime) -> anyhow::Result<()> {
             "NOT as expected"
         };
         let answer = Answer(answered);
-        writeln!(out, "{title}: {answer}: {verdict}")?;
+        writeln!(out, "{asked}: {answer}: {verdict}")?;
     }
     out.flush()?;
     Ok(())

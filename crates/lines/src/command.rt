@@ -11,7 +11,7 @@ use crate::token::Token;
 pub enum Command {
     // a plan begins
     Plan,
-    // one more reading of the plan
+    // one more reading of the plan: the numbers of the line, and no type of the crate that judges them
     Reading { id: u16, work: u16, validity: u16 },
     // the plan ends, to be refreshed by Half-Half
     Half,

@@ -4,7 +4,8 @@ ghost use Rattle.std.specs.Iterator.{item_count};
 ghost use Rattle.lines.specs.Pieces.{pieces};
 ghost use Rattle.lines.specs.Left.{left, none_left};
 
-// The pieces of a text that are still to be handed out.
+// The pieces of a text that are still to be handed out. An iterator of our own and no `split`: a struct holds it, and the
+// type of a closure has no name.
 #[derive(Clone, Copy)]
 pub struct Pieces<'a> {
     // what lies behind the last separator that was passed; none once every piece has been handed out

@@ -39,7 +39,7 @@ impl<'a> Token<'a> {
         }
     }
 
-    // Whether the token is the given word.
+    // Whether the token has the bytes of the given word. No `==`, which would tell a word from a number of the same bytes.
     pub fn is(&self, word: &[u8]) -> bool
         ensures { result ≡ bytes_eq (bytes_of self.now) word.now }
     {

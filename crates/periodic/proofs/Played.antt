@@ -3,7 +3,7 @@ use Rattle.std.proofs.Common.{◌≡◌, ℕ, zero, suc, ◌+◌, ◌-◌, ◌%�
 use native.Mathlib.Nat.{sub-zero}
 use Rattle.std.proofs.lemmas.List.{get_or-map, length-map, take_all}
 use Rattle.policy.proofs.Stepping.{last_step}
-use Rattle.policy.specs.Course.{steps}
+use Rattle.std.specs.Fn.{iterate}
 use Rattle.planner.specs.Timing.{Positive, blank}
 use Rattle.planner.specs.declared.timing.Timing.{Timing}
 use Rattle.periodic.specs.declared.row.Row.{Row}
@@ -16,9 +16,8 @@ use Rattle.periodic.proofs.Steps.{length_run}
 
 -- a row's numbers in slot n
 record RowIn (t : Timing) (n : ℕ) (r : Row) : Type 0 where
-  work : r.work ≡ t.work
+  timing : r.timing ≡ t
   phase : Phase t.period n r.until
-  period : r.period ≡ t.period
 
 record RowsIn (ts : List Timing) (n : ℕ) (rs : List Row) : Type 0 where
   count : length rs ≡ length ts
@@ -27,14 +26,13 @@ record RowsIn (ts : List Timing) (n : ℕ) (rs : List Row) : Type 0 where
 sampled_row : (t : Timing) (n : ℕ) (r : Row) → RowIn t n r → RowIn t (suc n) (sampled r)
 sampled_row t n r i =
     record {
-      work = i.work;
-      phase = rw i.period (phase_more t.period n r.until i.phase);
-      period = i.period;
+      timing = i.timing;
+      phase = rw i.timing (phase_more t.period n r.until i.phase);
     }
 
 -- a run changes only the work left
 run_row : (t : Timing) (n : ℕ) (r : Row) (b : Bool) → RowIn t n r → RowIn t n (cond b (worked r) r)
-run_row t n r true i = record { work = i.work; phase = i.phase; period = i.period }
+run_row t n r true i = record { timing = i.timing; phase = i.phase }
 run_row t n r false i = i
 
 sampled_at : (rs : List Row) (k : ℕ) → k < length rs → get_or (map sampled rs) k blank_row ≡ sampled (get_or rs k blank_row)
@@ -52,21 +50,21 @@ rows_more ts n rs i =
 begun_at : (ts : List Timing) (k : ℕ) → k < length ts → get_or (map begun ts) k blank_row ≡ begun (get_or ts k blank)
 begun_at ts k h = get_or-map begun ts k blank blank_row h
 
-rows_in : (ts : List Timing) → Positive ts → (n : ℕ) → RowsIn ts n (steps periodic_next n (map begun ts))
+rows_in : (ts : List Timing) → Positive ts → (n : ℕ) → RowsIn ts n (iterate periodic_next n (map begun ts))
 rows_in ts p zero =
     record {
       count = length-map ts begun;
-      each = λ k h. rw (begun_at ts k h) (record { work = refl; phase = phase_start (get_or ts k blank).period (p k h); period = refl });
+      each = λ k h. rw (begun_at ts k h) (record { timing = refl; phase = phase_start (get_or ts k blank).period (p k h) });
     }
-rows_in ts p (suc n) = rw (last_step periodic_next n (map begun ts)) (rows_more ts n (steps periodic_next n (map begun ts)) (rows_in ts p n))
+rows_in ts p (suc n) = rw (last_step periodic_next n (map begun ts)) (rows_more ts n (iterate periodic_next n (map begun ts)) (rows_in ts p n))
 
 -- the rows of a new policy in slot n
 abbrev rows_at : List Timing → ℕ → List Row
-rows_at ts n = steps periodic_next n (map begun ts)
+rows_at ts n = iterate periodic_next n (map begun ts)
 
 -- the work left once the slot's sample is taken
 left_sampled : (t : Timing) (n : ℕ) (r : Row) → RowIn t n r → (sampled r).left ≡ cond (eqb (n % t.period) 0) t.work r.left
-left_sampled t n r i = rw (phase_due t.period n r.until i.phase, i.work)
+left_sampled t n r i = rw (phase_due t.period n r.until i.phase, i.timing)
 
 left_run : (b : Bool) (r : Row) → (cond b (worked r) r).left ≡ r.left - cond b 1 0
 left_run true r = refl

@@ -1,6 +1,6 @@
 -- The samples of a slot, taken from the first row to the last.
-use Rattle.std.proofs.Common.{◌≡◌, ℕ, ◌+◌, ◌*◌, ◌^◌, ◌<◌, ◌≤◌, Bool, true, false, cond, List, ◌++◌, map, length, get_or, take, drop, set, refl, sym, ap, ◌∙◌, add-one, append-nil, mul-add, mul_assoc, mul-one, pow-suc, arith}
-use Rattle.std.proofs.lemmas.List.{at_drop_all, at_drop_more, drop_all, drop_more, get_or_at, get_or_default, length-map, length-take-le, take_all}
+use Rattle.std.proofs.Common.{◌≡◌, ℕ, ◌+◌, ◌*◌, ◌^◌, ◌<◌, ◌≤◌, Bool, true, false, cond, List, ◌++◌, map, length, get_or, take, drop, set, sym, ap, ◌∙◌, add-one, mul-add, mul_assoc, mul-one, pow-suc, arith}
+use Rattle.std.proofs.lemmas.List.{at_drop_more, drop_more, get_or_at, get_or_default, length-map, length-take-le}
 use Rattle.std.proofs.lemmas.List.Edits.{map_over_more}
 use Rattle.periodic.specs.declared.row.Row.{Row}
 use Rattle.periodic.specs.Rows.{blank_row, due, mask, sampled}
@@ -9,9 +9,6 @@ use Rattle.periodic.specs.Rows.{blank_row, due, mask, sampled}
 pub record SampledBelow (k : ℕ) (old : List Row) (m : ℕ) (rows : List Row) : Type 0 where
   pub told : m + 2 ^ k * mask (drop k old) ≡ mask old
   pub taken : rows ≡ map sampled (take k old) ++ drop k old
-
-pub sampled_none : (old : List Row) → SampledBelow 0 old 0 old
-sampled_none old = record { told = omega arith; taken = refl }
 
 -- a bit and the bits above it, moved k places up
 moved : (k b n : ℕ) → 2 ^ k * (b + 2 * n) ≡ 2 ^ k * b + 2 ^ (k + 1) * n
@@ -49,12 +46,3 @@ module _ (k : ℕ) (old : List Row) (m : ℕ) (rows : List Row) (h : k < length 
   -- there is room for the bit of a row that is due
   pub room : true ≡ due (get_or rows k blank_row) → m + 2 ^ k ≤ mask old
   room d = let b = rw mul-one at (bit true d) in omega arith
-
-pub sampled_all : (k : ℕ) (old : List Row) (m : ℕ) (rows : List Row) → length old ≤ k → SampledBelow k old m rows → (m ≡ mask old) × (rows ≡ map sampled old)
-sampled_all k old m rows h s =
-    let none : mask (drop k old) ≡ 0 = at_drop_all mask old k h in
-    let t = rw none at s.told in
-    let a = take_all k old h in
-    let d = drop_all k old h in
-    let n = append-nil (map sampled old) in
-    (omega arith, s.taken ∙ (cc))

@@ -4,23 +4,30 @@ use Rattle.std.proofs.Common.{Decides, ap, sym, ◌∙◌}
 use Rattle.std.proofs.lemmas.Bool.{and_from, and_parts, eq-eqb, eqb-true}
 use Rattle.std.proofs.lemmas.Slice.Eq.{slice_eq-Decides}
 use Rattle.periodic.specs.declared.row.Row.{Row}
-use Rattle.periodic.specs.Rows.{same_row, same_rows}
+use Rattle.periodic.specs.Rows.{same_row, same_rows, same_timing}
+use Rattle.planner.specs.declared.timing.Timing.{Timing}
+
+timing_from_same : (t u : Timing) → same_timing t u ≡ true → t ≡ u
+timing_from_same t u h =
+    let p = and_parts _ _ h in
+    let e = eqb-true t.work u.work p.0 in
+    let f = eqb-true t.period u.period p.1 in
+    let same : ◌≡◌ {A = Timing} (record { work = t.work; period = t.period }) (record { work = u.work; period = u.period }) = cc in
+    same
 
 row_from_same : (a b : Row) → same_row a b ≡ true → a ≡ b
 row_from_same a b h =
-    let w = and_parts _ _ h in
-    let p = and_parts _ _ w.1 in
-    let u = and_parts _ _ p.1 in
-    let e = eqb-true a.work b.work w.0 in
-    let f = eqb-true a.period b.period p.0 in
+    let t = and_parts _ _ h in
+    let u = and_parts _ _ t.1 in
+    let e = timing_from_same a.timing b.timing t.0 in
     let g = eqb-true a.until b.until u.0 in
     let i = eqb-true a.left b.left u.1 in
-    let same : ◌≡◌ {A = Row} (record { work = a.work; period = a.period; until = a.until; left = a.left }) (record { work = b.work; period = b.period; until = b.until; left = b.left }) = cc in
+    let same : ◌≡◌ {A = Row} (record { timing = a.timing; until = a.until; left = a.left }) (record { timing = b.timing; until = b.until; left = b.left }) = cc in
     same
 
 row_to_same : (a : Row) → same_row a a ≡ true
 row_to_same a =
-    and_from _ _ (eq-eqb a.work _ refl) (and_from _ _ (eq-eqb a.period _ refl) (and_from _ _ (eq-eqb a.until _ refl) (eq-eqb a.left _ refl)))
+    and_from _ _ (and_from _ _ (eq-eqb a.timing.work _ refl) (eq-eqb a.timing.period _ refl)) (and_from _ _ (eq-eqb a.until _ refl) (eq-eqb a.left _ refl))
 
 same_row_decides : (a b : Row) → Decides (same_row a b) (a ≡ b)
 same_row_decides a b = (row_from_same a b, λ e. ap (same_row a) (sym e) ∙ row_to_same a)

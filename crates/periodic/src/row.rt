@@ -3,12 +3,11 @@ ghost use Rattle.std.specs.Prelude.{◌≡◌};
 
 use planner::timing::Timing;
 
-// What the periodic kind keeps of a row: its work length and period, the slots until its next sample,
-// and the work left of its job.
-#[derive(Clone, Copy, PartialEq, Eq, Debug)]
+// What the periodic kind keeps of a row: how it is refreshed, the slots until its next sample, and the work left of its
+// job.
+#[derive(Clone, Copy, PartialEq, Eq, Debug, Default)]
 pub struct Row {
-    pub work: u8,
-    pub period: u16,
+    pub timing: Timing,
     pub until: u16,
     pub left: u8,
 }
@@ -19,8 +18,7 @@ impl Row {
         ensures { result ≡ begun timing.now }
     {
         Row {
-            work: timing.work,
-            period: timing.period,
+            timing: *timing,
             until: 0,
             left: 0,
         }
@@ -32,8 +30,8 @@ impl Row {
         ensures taken { self.new ≡ sampled self.old }
     {
         if self.until == 0 {
-            self.until = self.period.saturating_sub(1);
-            self.left = self.work;
+            self.until = self.timing.period.saturating_sub(1);
+            self.left = self.timing.work;
             true
         } else {
             self.until -= 1;

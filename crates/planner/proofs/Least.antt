@@ -1,14 +1,15 @@
 -- The least number that passes a test.
-use Rattle.std.proofs.Common.{◌≡◌, ℕ, zero, suc, ◌<◌, ◌≤◌, Bool, true, false, Some, None, Option, refl, ap, ◌∙◌, inl, inr, arith, MatchOption}
+use Rattle.std.proofs.Common.{◌≡◌, ℕ, zero, suc, ◌<◌, ◌≤◌, Bool, true, false, cond, Some, None, Option, refl, ap, ◌∙◌, inl, inr, arith, MatchOption}
 use Rattle.std.proofs.lemmas.Bool.{cases_order, cases_Bool, both_ways, cond-true, cond-false}
-use Rattle.planner.specs.Response.{least, or_next}
+use Rattle.std.specs.Option.{option_or}
+use Rattle.planner.specs.Response.{least}
 
 -- what is found passes, is within the bound, and nothing below it passes; where nothing is found,
 -- nothing within the bound passes
 abbrev pub Tells : (ℕ → Bool) → ℕ → Option ℕ → Type 0
 Tells test n o = MatchOption o ((j : ℕ) → j ≤ n → test j ≡ false) (λ d. (test d ≡ true) × (d ≤ n) × ((j : ℕ) → j < d → test j ≡ false))
 
-tells_next : (test : ℕ → Bool) (n : ℕ) (o : Option ℕ) → Tells test n o → Tells test (suc n) (or_next o (test (suc n)) (suc n))
+tells_next : (test : ℕ → Bool) (n : ℕ) (o : Option ℕ) → Tells test n o → Tells test (suc n) (option_or o (cond (test (suc n)) (Some (suc n)) None))
 tells_next test n (Some d) h = (h.0, omega arith, h.2)
 tells_next test n None h =
     elim (cases_Bool (test (suc n))) [

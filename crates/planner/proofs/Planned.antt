@@ -23,9 +23,6 @@ goes_by above r rs o e = subst (λ (p : Option ℕ). more_less_below above (r �
 pub below_more : (above : List Timing) (given : List Reading) (k d : ℕ) → k < length given → response_time above (get_or given k no_reading).work (get_or given k no_reading).validity ≡ Some d → more_less_below above (drop k given) ≡ more_less_below (above ++ timed (get_or given k no_reading) ((get_or given k no_reading).validity - d) ∷ []) (drop (k + 1) given)
 below_more above given k d h e = at_drop_more (more_less_below above) given k no_reading h ∙ goes_by above (get_or given k no_reading) (drop (k + 1) given) (Some d) e
 
-pub below_ends : (above : List Timing) (given : List Reading) (k : ℕ) → k < length given → response_time above (get_or given k no_reading).work (get_or given k no_reading).validity ≡ None → more_less_below above (drop k given) ≡ Err (5, (length above + 1) ∷ [])
-below_ends above given k h e = at_drop_more (more_less_below above) given k no_reading h ∙ goes_by above (get_or given k no_reading) (drop (k + 1) given) None e
-
 none_planned : MoreLess [] []
 none_planned = record { count = refl; works = λ k h. absurd (omega arith); within = λ k h. absurd (omega arith); responses = λ k h. absurd (omega arith) }
 

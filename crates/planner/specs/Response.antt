@@ -1,4 +1,5 @@
 -- Response times: how long a row's job takes when every row above is sampled with it.
+use Rattle.std.specs.Option.{option_or}
 use Rattle.std.specs.Prelude.{◌≡◌, ℕ, zero, suc, ◌+◌, ◌*◌, ◌/◌, ◌%◌, ◌<◌, ◌≤◌, min, Bool, if◌then◌else◌, List, [], ◌∷◌, Some, None, Option, nat_eq}
 use Rattle.planner.specs.declared.timing.Timing.{Timing}
 
@@ -19,14 +20,10 @@ demand (t ∷ ts) r = taken_by t r + demand ts r
 abbrev pub Settles : List Timing → ℕ → ℕ → Type 0
 Settles above work r = r ≡ work + demand above r
 
-abbrev pub or_next : Option ℕ → Bool → ℕ → Option ℕ
-or_next (Some r) passes n = Some r
-or_next None passes n = if passes then Some n else None
-
 -- the least number up to n that passes a test
 abbrev pub least : (ℕ → Bool) → ℕ → Option ℕ
 least test zero = if test zero then Some zero else None
-least test (suc n) = or_next (least test n) (test (suc n)) (suc n)
+least test (suc n) = option_or (least test n) (if test (suc n) then Some (suc n) else None)
 
 -- D of a row: the least r that settles, if twice that is at most its validity
 abbrev pub response_time : List Timing → ℕ → ℕ → Option ℕ

@@ -1,20 +1,23 @@
-ghost use Rattle.std.specs.Prelude.{◌≡◌, ◌*◌, ◌≤◌, length};
+ghost use Rattle.std.specs.Prelude.{◌≡◌, ◌*◌, ◌≤◌};
 ghost use Rattle.planner.specs.Response.{demand, response_time, taken_by};
 ghost use Rattle.planner.specs.Timing.{Positive};
+ghost use Rattle.rows.specs.Held.{rows_of};
 
 use crate::timing::Timing;
 use readings::reading::Reading;
+use rows::rows::Rows;
 
-// The slots that the rows above take out of so many slots.
-fn demand(above: &[Timing], slots: u32) -> u32
-    requires few { length above.now ≤ 16 }
+// The slots that the rows above take out of so many slots. That each has a period is asked and is no fact of `Timing`:
+// its fields are public, and a blank has the period 0. A `for`: that the closure of a chain with `sum` may be called at
+// each row found no proof.
+fn demand(above: &Rows<Timing>, slots: u32) -> u32
     requires bounded { slots ≤ 2047 }
-    requires positive { Positive above.now }
-    ensures value { result ≡ demand above.now slots }
+    requires positive { Positive (rows_of above.now) }
+    ensures value { result ≡ demand (rows_of above.now) slots }
     ensures bound { result ≤ 521985 * 16 }
 {
     let mut taken = 0;
-    for row in above {
+    for row in above.as_slice() {
         taken += taken_by(row, slots);
     }
     taken
@@ -31,11 +34,10 @@ fn taken_by(row: &Timing, slots: u32) -> u32
 }
 
 // The response time of a row below these, if twice that is at most its validity.
-pub(crate) fn response_time(above: &[Timing], reading: &Reading) -> Option<u16>
-    requires few { length above.now ≤ 16 }
+pub(crate) fn response_time(above: &Rows<Timing>, reading: &Reading) -> Option<u16>
     requires bounded { reading.now.validity ≤ 4095 }
-    requires positive { Positive above.now }
-    ensures { result ≡ response_time above.now reading.now.work reading.now.validity }
+    requires positive { Positive (rows_of above.now) }
+    ensures { result ≡ response_time (rows_of above.now) reading.now.work reading.now.validity }
 {
     let own = u32::from(reading.work);
     let most = u32::from(reading.validity / 2);
@@ -43,7 +45,7 @@ pub(crate) fn response_time(above: &[Timing], reading: &Reading) -> Option<u16>
     while slots <= most {
         let needed = own + demand(above, slots);
         if needed == slots {
-            return Some(slots as u16);
+            return u16::try_from(slots).ok();
         }
         slots = needed;
     }

@@ -1,11 +1,7 @@
 -- Courses that are stepped side by side.
-use Rattle.std.proofs.Common.{◌≡◌, ℕ, zero, suc, ◌+◌, ◌<◌, Bool, true, false, sym, refl, ap, ◌∙◌, inl, inr, add-one, arith}
+use Rattle.std.proofs.Common.{◌≡◌, ℕ, zero, suc, ◌+◌, ◌<◌, Bool, true, false, sym, refl, ap, ◌∙◌, inl, inr, arith}
 use Rattle.std.proofs.lemmas.Bool.{and_from, and_left, and_right, cases_order, eq-eqb}
 use Rattle.policy.specs.Course.{Answer, Course, agree_for, same_answer}
-
--- what lies m ahead of a stepped position lies m + 1 ahead of the one before it
-pub stepped : {S : Type 0} (course : S → Course) (next : S → S) → ((s : S) (n : ℕ) → course (next s) n ≡ course s (n + 1)) → (s t : S) (c : Course) (i : ℕ) → t ≡ next s → ((n : ℕ) → course s n ≡ c (i + n)) → (m : ℕ) → course t m ≡ c (i + 1 + m)
-stepped course next onward s t c i e far m = ap (λ (x : _). course x m) e ∙ onward s m ∙ far (m + 1) ∙ ap c (omega arith)
 
 -- the answers of a step are those that the courses have there
 pub answered : {S T : Type 0} (left : S → Course) (right : T → Course) (s : S) (t : T) (a b : Course) (i : ℕ) (r : Bool) → ((n : ℕ) → left s n ≡ a (i + n)) → ((n : ℕ) → right t n ≡ b (i + n)) → r ≡ same_answer (left s 0) (right t 0) → r ≡ same_answer (a i) (b i)
@@ -14,10 +10,6 @@ answered left right s t a b i r far_left far_right e =
     let x : left s 0 ≡ a i = far_left 0 ∙ ap a here in
     let y : right t 0 ≡ b i = far_right 0 ∙ ap b here in
     cc
-
--- one more slot with equal answers
-pub agree_more : (a b : Course) (n : ℕ) (r : Bool) → agree_for a b n ≡ true → r ≡ same_answer (a n) (b n) → r ≡ true → agree_for a b (n + 1) ≡ true
-agree_more a b n r h e same = rw add-one (and_from _ _ h (sym e ∙ same))
 
 -- one slot with different answers is enough
 differ_at : (a b : Course) (i n : ℕ) → i < n → same_answer (a i) (b i) ≡ false → agree_for a b n ≡ false

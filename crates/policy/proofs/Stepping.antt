@@ -1,9 +1,10 @@
 -- Things that are stepped any number of times.
 use Rattle.std.proofs.Common.{◌≡◌, ℕ, zero, suc, ◌+◌, refl, add-one}
-use Rattle.policy.specs.Course.{Answer, ahead, steps}
+use Rattle.std.specs.Fn.{iterate}
+use Rattle.policy.specs.Course.{Answer, ahead}
 
 -- the last of n + 1 steps
-pub last_step : {S : Type 0} (f : S → S) (n : ℕ) (s : S) → steps f (suc n) s ≡ f (steps f n s)
+pub last_step : {S : Type 0} (f : S → S) (n : ℕ) (s : S) → iterate f (suc n) s ≡ f (iterate f n s)
 last_step f zero s = refl
 last_step f (suc n) s = last_step f n (f s)
 

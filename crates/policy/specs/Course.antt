@@ -1,4 +1,5 @@
 -- An answer for a slot, and a course: the endless sequence of a policy's answers.
+use Rattle.std.specs.Fn.{iterate}
 use Rattle.std.specs.Prelude.{ℕ, zero, suc, ◌/◌, ◌%◌, ◌^◌, Bool, true, ◌&&◌, ◌==◌}
 
 -- the rows to sample as a mask, row k standing for 2^(k - 1), and the row to run, or 0
@@ -21,11 +22,6 @@ abbrev pub agree_for : Course → Course → ℕ → Bool
 agree_for a b zero = true
 agree_for a b (suc n) = agree_for a b n && same_answer (a n) (b n)
 
--- f taken n times
-abbrev pub steps : {S : Type 0} → (S → S) → ℕ → S → S
-steps f zero s = s
-steps f (suc n) s = steps f n (f s)
-
 -- what a stepping thing shows n steps ahead
 abbrev pub ahead : {S : Type 0} → (S → S) → (S → Answer) → S → Course
-ahead f shows s n = shows (steps f n s)
+ahead f shows s n = shows (iterate f n s)

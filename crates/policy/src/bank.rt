@@ -9,7 +9,8 @@ use crate::policy::Policy;
 pub struct Bank<A, B> {
     pub first: A,
     pub second: B,
-    // a number and no enum: every number is taken, and two banks of different numbers never compare yes
+    // a number and no enum, by the rule of a bank: any number may stand here, and two banks of different numbers never
+    // compare yes
     pub used: u8,
 }
 

@@ -22,13 +22,13 @@ pub trait Policy: Drop + Sized {
     // what a comparison of two positions says: always the same
     ghost alike: { Position → Position → Bool };
 
-    // The answer for the present slot, and on to the next slot. A tuple of numbers is the form that was asked for;
-    // 0 stands for no row here, in what the books tell, and on a line that a program writes.
+    // The answer for the present slot, and on to the next slot. A tuple of numbers, with 0 for no row to run, is the form
+    // that was asked for.
     fn step(&mut self) -> (u16, u8)
         ensures answer { result ≡ course (position self.old) 0 }
         ensures moved { position self.new ≡ next (position self.old) };
 
-    // Whether this position compares with the other: a yes means equal courses.
+    // Whether this position compares with the other: a yes means equal courses. No `PartialEq`: a no means nothing.
     fn same(&self, other: &Self) -> bool
         ensures { result ≡ alike (position self.now) (position other.now) };
 

@@ -1,2 +1,3 @@
+pub mod Firsts
 mod Kept
 mod Refused

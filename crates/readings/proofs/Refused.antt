@@ -1,39 +1,17 @@
 -- From refusals, and from none, to what holds of the rows.
-use Rattle.std.proofs.Common.{◌≡◌, ℕ, zero, suc, ◌+◌, ◌-◌, ◌<◌, ◌≤◌, Bool, true, false, cond, not, ltb, List, [], ◌∷◌, length, get_or, take, replicate, Some, None, Option, sym, refl, ap, inl, inr, arith}
-use Rattle.std.proofs.lemmas.Bool.{and_parts, leb-true, ltb-false, or_parts, not-true, eqb-false, cases_order}
+use Rattle.std.proofs.Common.{◌≡◌, ℕ, zero, suc, ◌-◌, ◌<◌, ◌≤◌, Bool, true, false, cond, not, ltb, List, [], ◌∷◌, length, get_or, slice_get, take, ◌∙◌, replicate, Some, None, sym, refl, ap, arith}
+use Rattle.std.proofs.lemmas.List.{get_or-take, length-take-le}
+use Rattle.std.proofs.lemmas.Option.{slice_get-get_or}
+use Rattle.std.proofs.lemmas.Bool.{and_parts, leb-true, ltb-false, or_parts, not-true, eqb-false}
+use Rattle.readings.proofs.Firsts.{first_clear}
 use Rattle.readings.specs.declared.reading.Proposal.{Proposal}
 use Rattle.readings.specs.Ranges.{all_blank, blank}
 use Rattle.readings.specs.Refusals.{Told}
-use Rattle.readings.specs.Lists.{has_id, in_range, list_count, new_id, no_proposal, or_else, row_refusal, rows_refusal}
+use Rattle.readings.specs.Lists.{has_id, in_range, list_count, new_id, no_proposal, out_of_order, refusal_at, rows_refusal}
 
--- one row more
-pub rows_more : (ps : List Proposal) (k n : ℕ) → k < n → rows_refusal ps k (n - k) ≡ or_else (row_refusal ps k) (rows_refusal ps (k + 1) (n - (k + 1)))
-rows_more ps k n h = ap (rows_refusal ps k) (let e : n - k ≡ suc (n - (k + 1)) = omega arith in e)
-
--- a row that is refused ends the check, and one that passes goes on
-pub ends_here : (t : Told) (o p : Option Told) → Some t ≡ o → Some t ≡ or_else o p
-ends_here t o p h = let g : o ≡ Some t = sym h in rw g refl
-
-pub goes_on : (o p : Option Told) → None ≡ o → or_else o p ≡ p
-goes_on o p h = let g : o ≡ None = sym h in rw g refl
-
--- without a refusal there is none at any row
-first_none : (o p : Option Told) → or_else o p ≡ None → (o ≡ None) × (p ≡ None)
-first_none None p h = (refl, h)
-first_none (Some t) p h = let z : ◌≡◌ {A = ℕ} 0 1 = cc in absurd (omega arith)
-
-pub none_at : (ps : List Proposal) (k n : ℕ) → rows_refusal ps k n ≡ None → (j : ℕ) → k ≤ j → j < k + n → row_refusal ps j ≡ None
-none_at ps k zero h j lo hi = absurd (omega arith)
-none_at ps k (suc n) h j lo hi =
-    let both = first_none (row_refusal ps k) (rows_refusal ps (k + 1) n) h in
-    elim (cases_order k j) [
-      | inl same ↦ rw same at both.0
-      | inr (inl less) ↦ none_at ps (k + 1) n both.1 j (omega arith) (omega arith)
-      | inr (inr more) ↦ absurd (omega arith)
-    ]
-
-pub unrefused : (ps : List Proposal) → None ≡ rows_refusal ps 0 (length ps) → (k : ℕ) → k < length ps → row_refusal ps k ≡ None
-unrefused ps e k h = none_at ps 0 (length ps) (sym e) k (omega arith) (omega arith)
+-- without a refusal among the rows there is none at any row
+pub unrefused : (ps : List Proposal) → None ≡ rows_refusal ps → (k : ℕ) → k < length ps → refusal_at ps k ≡ None
+unrefused ps e k h = first_clear (refusal_at ps) 0 (length ps) (sym e) k (omega arith) (omega arith)
 
 -- what a row without a refusal holds
 pub record Sound (ps : List Proposal) (k : ℕ) : Type 0 where
@@ -53,10 +31,21 @@ chain true true true x y z h = let w : ◌≡◌ {A = ℕ} 0 1 = cc in absurd (o
 chain true false c x y z h = let w : ◌≡◌ {A = ℕ} 0 1 = cc in absurd (omega arith)
 chain false b c x y z h = let w : ◌≡◌ {A = ℕ} 0 1 = cc in absurd (omega arith)
 
-pub sound : (ps : List Proposal) (k : ℕ) → row_refusal ps k ≡ None → Sound ps k
-sound ps k h =
+-- a row that is not out of order has at least the validity of the last row above
+in_order : (ps : List Proposal) (k : ℕ) → k < length ps → out_of_order (take k ps) (get_or ps k no_proposal) ≡ false → (get_or ps (k - 1) no_proposal).validity ≤ (get_or ps k no_proposal).validity
+in_order ps zero h e = omega arith
+in_order ps (suc j) h e =
+    let n = length-take-le (suc j) ps (omega arith) in
+    let last : length (take (suc j) ps) - 1 ≡ j = omega arith in
+    let is : slice_get (take (suc j) ps) j ≡ Some (get_or ps j no_proposal) = slice_get-get_or (take (suc j) ps) j no_proposal (omega arith) ∙ ap Some (get_or-take (suc j) ps j no_proposal (omega arith)) in
+    let late : ltb (get_or ps (suc j) no_proposal).validity (get_or ps j no_proposal).validity ≡ false = rw (last, is) at e in
+    let same : suc j - 1 ≡ j = omega arith in
+    rw same (ltb-false _ _ late)
+
+pub sound : (ps : List Proposal) (k : ℕ) → k < length ps → refusal_at ps k ≡ None → Sound ps k
+sound ps k inside h =
     let it = get_or ps k no_proposal in
-    let t = chain (in_range it) (new_id it.id (take k ps)) (ltb it.validity (get_or ps (k - 1) no_proposal).validity) _ _ _ h in
+    let t = chain (in_range it) (new_id it.id (take k ps)) (out_of_order (take k ps) it) _ _ _ h in
     let a = and_parts _ _ t.0 in
     let b = and_parts _ _ a.1 in
     let d = and_parts _ _ b.1 in
@@ -72,7 +61,7 @@ sound ps k h =
       validity_low = leb-true _ _ d.0;
       validity_high = leb-true _ _ e.0;
       work_fits = leb-true _ _ e.1;
-      ordered = ltb-false _ _ t.2;
+      ordered = in_order ps k inside t.2;
     }
 
 -- no row has an id that is not there

@@ -1,3 +1,4 @@
 pub mod Refusals
+pub mod Firsts
 pub mod Ranges
 pub mod Lists

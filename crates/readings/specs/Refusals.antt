@@ -1,5 +1,5 @@
 -- What each refusal tells: its number, and then its values.
-use Rattle.std.specs.Prelude.{ℕ, List, [], ◌∷◌, Some, None, Option, Ok, Err, Result}
+use Rattle.std.specs.Prelude.{ℕ, List, [], ◌∷◌, ◌++◌, codes, decimal, Some, None, Option, Ok, Err, Result}
 use Rattle.readings.specs.declared.refusal.Refusal.{Refusal}
 use Rattle.readings.specs.declared.refusal.Refusal.TheVariants.{Count, Range, Id, Order, Response, StripLength, FirstJob, NextJob, NoLoop, Outside, JobRule, Stale, NoRepeat, Resting, Running, CrossingWaits, Latency, NoInstant, UnknownId, FileLength, BlockSum, BlockHead, FileRest, Line, Plan}
 
@@ -36,6 +36,10 @@ told Plan = (25, [])
 
 abbrev pub number : Refusal → ℕ
 number r = (told r).0
+
+-- a refusal as an answer has it: `no` and its number
+abbrev pub written : Told → List ℕ
+written t = codes "no " ++ decimal t.0
 
 -- what a check that passes or refuses tells: nothing where it passes
 abbrev pub refusal_of : {A : Type 0} → Result A Refusal → Option Told

@@ -1,5 +1,7 @@
-ghost use Rattle.readings.specs.Refusals.{number};
-ghost use Rattle.std.specs.Prelude.{◌≡◌};
+ghost use Rattle.readings.specs.Refusals.{number, told, written};
+ghost use Rattle.std.specs.Prelude.{◌≡◌, Some};
+
+use std::fmt;
 
 // Why a call is refused, with what the refusal tells: rows count from 1, slots and blocks from 0.
 #[derive(Clone, Copy, PartialEq, Eq, Debug)]
@@ -88,5 +90,15 @@ impl Refusal {
             Refusal::Line => 24,
             Refusal::Plan => 25,
         }
+    }
+}
+
+// `no` and the number, as an answer on a line has it.
+impl fmt::Display for Refusal {
+    ghost output = { λ r. Some (written (told r)) };
+
+    fn fmt<W: fmt::Write>(&self, f: &mut fmt::Formatter<W>) -> fmt::Result {
+        let number = self.number();
+        write!(f, "no {number}")
     }
 }

@@ -22,6 +22,7 @@ fn run(rt: &HostRuntime) -> anyhow::Result<()> {
 
 // The script, or one byte more than a script may have of a longer one.
 fn read_script(rt: &HostRuntime) -> io::Result<Vec<u8>> {
+    // `as`, since no `From` makes a u64 of a usize
     let mut input = rt.stdin().take(LONGEST_SCRIPT as u64 + 1);
     let mut text = Vec::new(rt.alloc());
     input.read_to_end(&mut text)?;

@@ -2,7 +2,7 @@
 -- 2^k - 1, so one of 0, 1, 3, 7, ...
 use Rattle.std.specs.Prelude.{◌≡◌, ℕ, zero, suc, ◌+◌, ◌*◌, ◌^◌, ◌<◌, ◌≤◌, Bool, if◌then◌else◌, ◌==◌}
 
--- the state n steps on
+-- the state n steps on: the last step outermost, as a search takes it, where std's `iterate` has it innermost
 abbrev pub after : {S : Type 0} → (S → S) → ℕ → S → S
 after next zero s = s
 after next (suc n) s = next (after next n s)

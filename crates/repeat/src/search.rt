@@ -62,7 +62,8 @@ impl<S: Stepper> Search<S> {
 // Steps a copy of `start` from instant 0 on. The search ends at the first instant from 1 on whose
 // state compares yes with the one at its mark, or at the first fault on the way, or with neither at
 // the limit. The mark of an instant is the largest number below it of the form 2^k - 1. After a
-// repeat no step, however far ahead, meets a fault.
+// repeat no step, however far ahead, meets a fault. The clauses name the three members of the stepper: a member that
+// bundled them would be one more for each kind to define.
 #[tactic(auto, using(crate::proofs::Marks::largest))]
 pub fn first_repeat<S: Stepper>(start: &S, limit: u16) -> Result<Repeat, NoRepeat<S::Fault>>
     ensures found { Finds (record { fault = S.fault; next = S.next; alike = S.alike })

@@ -2,7 +2,8 @@ ghost use Rattle.std.specs.Prelude.{◌≡◌, ℕ, Bool, true, None, Some, Opti
 ghost use Rattle.repeat.specs.Marks.{after};
 
 // A stepping thing stands in a state. A step either meets a fault or moves to the next state, and two
-// states can be compared.
+// states can be compared. A policy, in the crate `policy`, is compared and copied too; no trait stands above both, since
+// a yes means another thing of each.
 pub trait Stepper: Drop + Sized {
     // what a step may meet
     type Fault: Drop;
@@ -27,7 +28,8 @@ pub trait Stepper: Drop + Sized {
         ensures moved { OnOk result (state self.new ≡ next (state self.old)) }
         ensures met { IfErr result (λ met. fault (state self.old) ≡ Some met) };
 
-    // Whether this state compares with the other: a yes means the same faults ever after.
+    // Whether this state compares with the other: a yes means the same faults ever after. No `PartialEq`: a no means
+    // nothing.
     fn same(&self, other: &Self) -> bool
         ensures { result ≡ alike (state self.now) (state other.now) };
 

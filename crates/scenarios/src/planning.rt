@@ -8,14 +8,15 @@ use readings::reading::Proposal;
 use readings::refusal::Refusal;
 use std::test::Fail;
 
-// Readings 7, 8 and 9, each with its work length and validity.
+// Readings 7, 8 and 9, each with its work length and validity. Lists of their own, since the program `examples` lends
+// none of its code.
 fn list_of(rows: [(u32, u32); 3]) -> Result<Readings, Refusal> {
     let [first, second, third] = rows;
     Readings::new(&[proposal(7, first), proposal(8, second), proposal(9, third)])
 }
 
 fn proposal(id: u32, (work, validity): (u32, u32)) -> Proposal {
-    Proposal { id, work, validity }
+    Proposal::new(id, work, validity)
 }
 
 fn list_x() -> Result<Readings, Refusal> {
@@ -24,12 +25,11 @@ fn list_x() -> Result<Readings, Refusal> {
 
 // Whether these are the periods of the rows.
 fn has_periods(timings: &Timings, expected: &[u16]) -> bool {
-    let rows = timings.rows();
-    rows.len() == expected.len()
-        && rows
-            .iter()
-            .zip(expected)
-            .all(|(row, period)| row.period == *period)
+    timings
+        .rows()
+        .iter()
+        .map(|row| row.period)
+        .eq(expected.iter().copied())
 }
 
 #[test]
@@ -51,13 +51,9 @@ fn more_less_leaves_the_response_time(rt: HostRuntime) -> Result<(), Fail> {
 #[test]
 fn more_less_refuses_a_late_response(rt: HostRuntime) -> Result<(), Fail> {
     let z = Readings::new(&[proposal(1, (2, 6)), proposal(2, (3, 13))])?;
-    match Timings::more_less(&z) {
-        Err(Refusal::Response { row }) => {
-            assert_eq!(rt; row, 2);
-            Ok(())
-        },
-        _ => Err(Fail::new("no refusal of the second row")),
-    }
+    let refused = Timings::more_less(&z);
+    assert!(rt; matches!(refused, Err(Refusal::Response { row: 2 })));
+    Ok(())
 }
 
 // The row that is run in the first six slots, and the rows sampled.

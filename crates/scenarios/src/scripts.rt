@@ -1,5 +1,6 @@
 use script::rehearsal::Rehearsal;
 use std::alloc::{AllocError, Global};
+use std::fmt::Write;
 use std::test::Fail;
 
 // What is written for the script.
@@ -7,8 +8,7 @@ fn rehearsed(heap: Global, text: &[u8]) -> Result<String, AllocError> {
     let mut written = String::new(heap);
     let mut rehearsal = Rehearsal::new(heap, text);
     while let Some(reply) = rehearsal.reply()? {
-        let line = format!(in heap; "{reply}\n")?;
-        written.push_str(line.as_str())?;
+        writeln!(written, "{reply}")?;
     }
     Ok(written)
 }
@@ -75,8 +75,7 @@ fn seventeen_readings(rt: HostRuntime) -> Result<(), Fail> {
     let mut text = String::from_str(heap, "plan\n")?;
     let mut expected = String::from_str(heap, "ok\n")?;
     for id in 1..18 {
-        let line = format!(in heap; "reading {id} 1 9\n")?;
-        text.push_str(line.as_str())?;
+        writeln!(text, "reading {id} 1 9")?;
         expected.push_str("ok\n")?;
     }
     text.push_str("more\n")?;

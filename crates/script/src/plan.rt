@@ -8,7 +8,7 @@ use readings::list::Readings;
 use readings::reading::Proposal;
 use readings::refusal::Refusal;
 
-// Which planner gives the rows their periods.
+// Which planner gives the rows their periods. An enum and no closure: a definition says of each what it gives.
 #[derive(Clone, Copy, PartialEq, Eq, Debug)]
 pub enum Planner {
     HalfHalf,

@@ -12,7 +12,7 @@ use std::alloc::{AllocError, Global};
 // the most bytes that a script may have
 pub const LONGEST_SCRIPT: usize = 16_384;
 
-// what a longer script is taken for: a line cut short
+// what a longer script is taken for: a line cut short, so that its one refusal needs no case and no flag of its own
 const TOO_LONG: &[u8] = b"?";
 
 // A script that is answered line by line.

@@ -4,7 +4,7 @@ ghost use Rattle.std.specs.Prelude.{Some};
 use readings::refusal::Refusal;
 use std::fmt;
 
-// What a line is answered with: it is done, or it is refused.
+// What a line is answered with: it is done, or it is refused. A newtype, since a `Result` cannot be given a `Display`.
 #[derive(Clone, Copy)]
 pub struct Reply(pub Result<(), Refusal>);
 
@@ -14,10 +14,7 @@ impl fmt::Display for Reply {
     fn fmt<W: fmt::Write>(&self, f: &mut fmt::Formatter<W>) -> fmt::Result {
         match &self.0 {
             Ok(()) => write!(f, "ok"),
-            Err(refusal) => {
-                let number = refusal.number();
-                write!(f, "no {number}")
-            }
+            Err(refusal) => write!(f, "{refusal}"),
         }
     }
 }

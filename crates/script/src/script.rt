@@ -20,7 +20,7 @@ pub struct Script {
     begun: u8,
     // the readings so far of the last of them, if it has not ended
     proposed: Option<Vec<Proposal>>,
-    // the plans that are ready
+    // the plans that are ready; no array, so that no index can be wrong
     first: Option<Plan>,
     second: Option<Plan>,
 }
@@ -40,7 +40,8 @@ impl Script {
     }
 
     // Takes a line, given without the byte that ends it. Memory fails only where the line adds a reading
-    // and there is no room for it, and then nothing has changed.
+    // and there is no room for it, and then nothing has changed. A refusal is an answer and stands in the `Ok`, so that a
+    // caller's `?` hands on want of memory alone.
     pub fn line(&mut self, line: &[u8]) -> Result<Reply, AllocError>
         ensures { elim result [
           | Ok reply ↦ (refusal_of reply, state_of self.new) ≡ turn line.now (state_of self.old)
@@ -50,12 +51,7 @@ impl Script {
         match Command::of(line) {
             Some(Command::Plan) => Ok(Reply(self.begin())),
             Some(Command::Reading { id, work, validity }) => {
-                let reading = Proposal {
-                    id: u32::from(id),
-                    work: u32::from(work),
-                    validity: u32::from(validity),
-                };
-                self.propose(reading)
+                self.propose(Proposal::new(id.into(), work.into(), validity.into()))
             }
             Some(Command::Half) => Ok(Reply(self.finish(Planner::HalfHalf))),
             Some(Command::More) => Ok(Reply(self.finish(Planner::MoreLess))),

@@ -1,6 +1,6 @@
 -- First finishes, noted instant by instant.
-use Rattle.std.proofs.Common.{◌≡◌, ℕ, ◌+◌, ◌<◌, ◌≤◌, true, false, List, map, take, length, get_or, Some, None, Option, unwrap_or, ◌≢◌, refl, sym, ap, ◌∙◌, subst, inl, inr, arith}
-use Rattle.std.proofs.lemmas.List.{get_or-map, get_or-take, length-map, length-take-le, take_all}
+use Rattle.std.proofs.Common.{◌≡◌, ℕ, zero, suc, [], ◌∷◌, ◌+◌, ◌<◌, ◌≤◌, true, false, List, map, take, length, get_or, Some, None, Option, unwrap_or, ◌≢◌, refl, sym, ap, ◌∙◌, subst, inl, inr, arith}
+use Rattle.std.proofs.lemmas.List.{get_or-map, length-map, length-take-le, take_all}
 use Rattle.std.proofs.lemmas.Bool.{cases_Bool, cases_eq}
 use Rattle.readings.specs.Lists.{rows_of}
 use Rattle.readings.specs.declared.list.Readings.{Readings}
@@ -14,6 +14,8 @@ use Rattle.books.specs.declared.row.Row.{Row}
 use Rattle.books.proofs.Keeps.{judged_fresh, work_keeps}
 use Rattle.books.proofs.RowRuns.{books_length}
 use Rattle.books.proofs.Began.{began_row}
+use Rattle.rows.specs.Held.{rows_of as held}
+use Rattle.rows.specs.declared.rows.Rows.{Rows}
 use Rattle.walk.specs.Finishes.{FirstFinish, NoneShown, noted, shows}
 use Rattle.walk.specs.Plans.{new_rows}
 
@@ -91,20 +93,25 @@ noted_on c rs n shown old new e was is k h =
     let m = ap length e in
     noted_more c rs k n (get_or old k None) (get_or new k None) (get_or shown k blank_row) (was k h) (ap (λ (qs : List Row). get_or qs k blank_row) e) (is k (omega arith))
 
--- the instants of the first n notes
-module _ (n : ℕ) (notes : List (Option ℕ)) (out : List ℕ) (h : n ≤ 16) (l : length notes ≡ 16) (e : out ≡ map (λ o. unwrap_or o 0) (take 16 (take n notes))) where
-  front : length (take n notes) ≡ n
-  front = length-take-le n notes (omega arith)
+all_none : {X : Type 0} (rows : List X) (k : ℕ) → ◌≡◌ {A = Option ℕ} (get_or (map (λ _. None) rows) k None) None
+all_none [] k = refl
+all_none (x ∷ xs) zero = refl
+all_none (x ∷ xs) (suc k) = all_none xs k
 
-  all : out ≡ map (λ o. unwrap_or o 0) (take n notes)
-  all = e ∙ ap (map (λ o. unwrap_or o 0)) (take_all 16 (take n notes) (omega (arith, front)))
+-- at first nothing is noted of any row
+pub unnoted : {X : Type 0} (rows : List X) (notes : List (Option ℕ)) → length rows ≤ 16 → notes ≡ map (λ _. None) (take 16 rows)
+    → (length notes ≡ length rows) × ((k : ℕ) → get_or notes k None ≡ None)
+unnoted rows notes few e =
+    let all : notes ≡ map (λ _. None) rows = e ∙ ap (map (λ _. None)) (take_all 16 rows few) in
+    (ap length all ∙ length-map rows (λ _. None), λ k. ap (λ (xs : List (Option ℕ)). get_or xs k None) all ∙ all_none rows k)
 
-  pub instants : length out ≡ n
-  instants = ap length all ∙ length-map (take n notes) (λ o. unwrap_or o 0) ∙ front
+-- as many are noted of as before where the count stays
+pub kept : {T : Type 0} (old new : Rows T) → new.count ≡ old.count → length (held new) ≡ length (held old)
+kept old new e = length-take-le new.count new.items (omega arith) ∙ e ∙ sym (length-take-le old.count old.items (omega arith))
 
-  pub instant_at : (k : ℕ) → k < n → get_or out k 0 ≡ unwrap_or (get_or notes k None) 0
-  instant_at k less =
-      ap (λ (xs : List ℕ). get_or xs k 0) all ∙ get_or-map (λ o. unwrap_or o 0) (take n notes) k None 0 (omega (arith, front)) ∙ ap (λ o. unwrap_or o 0) (get_or-take n notes k None less)
+-- the instants of notes
+pub instant_at : (notes : List (Option ℕ)) (out : List ℕ) → out ≡ map (λ o. unwrap_or o 0) notes → (k : ℕ) → k < length notes → get_or out k 0 ≡ unwrap_or (get_or notes k None) 0
+instant_at notes out e k less = ap (λ (xs : List ℕ). get_or xs k 0) e ∙ get_or-map (λ o. unwrap_or o 0) notes k None 0 less
 
 -- no row of new books has a value on show
 pub new_unshown : (l : Readings) → NoneShown (new_rows l)

@@ -8,7 +8,8 @@ use Rattle.repeat.specs.Turns.{search_from}
 use Rattle.repeat.proofs.Ever.{ever_shown}
 use Rattle.repeat.proofs.Look.{look, look_finds}
 use Rattle.repeat.proofs.Unique.{only}
-use Rattle.books.specs.Slots.{books_at, fault_at, first_fault}
+use Rattle.books.specs.Slots.{books_at, fault_at}
+use Rattle.readings.specs.Firsts.{first_of}
 use Rattle.books.specs.declared.row.Row.{Row}
 use Rattle.books.proofs.Ages.{stay_equal}
 use Rattle.walk.specs.Steps.{walk_fault, walk_next}
@@ -24,7 +25,7 @@ module _ {Pos : Type 0} (kind : Kind Pos) where
 
 -- what has to unfold where a walk is computed
 unfoldable pub walk_computes : Unit {0}
-unfolding walk_within look first_fault
+unfolding walk_within look first_of
 walk_computes = tt
 
 module _ {Pos : Type 0} (kind : Kind Pos) (onward : (p : Pos) (n : ℕ) → kind.course (kind.next p) n ≡ kind.course p (n + 1)) (p : Pos) (rs : List Row) where

@@ -10,7 +10,8 @@ mod crossing;
 mod read;
 
 // A plan that a walk has accepted: a list and a policy, the mark and the length of the repeat, and the first
-// finish of each row. Only a walk makes one.
+// finish of each row. Only a walk makes one. The finishes stand beside the list and not in its rows, since the list is
+// one value with a law of its own; mark and length stand as a walk answers them.
 #[derive(Drop)]
 pub struct Accepted<P> {
     list: Readings,

@@ -4,7 +4,8 @@ ghost use Rattle.books.specs.Fresh.{Fresh};
 ghost use Rattle.books.specs.Held.{rows_of};
 ghost use Rattle.books.specs.Rows.{come_on, same_rows};
 ghost use Rattle.books.specs.Parts.{Spare, Young, finishes, grown_fault, passed};
-ghost use Rattle.books.specs.Slots.{each_from, fault, first_fault, lowest_from, run, run_fault, sample_fault, sampled, shown_row, slot};
+ghost use Rattle.books.specs.Slots.{each_from, fault, lowest_from, run, run_fault, sample_fault, sampled, shown_row, slot};
+ghost use Rattle.readings.specs.Firsts.{first_of};
 ghost use Rattle.policy.specs.Course.{names};
 ghost use Rattle.readings.specs.Lists.{rows_of as readings_of};
 ghost use Rattle.std.specs.Result.{result_err};
@@ -23,11 +24,13 @@ fn is_named(mask: u16, k: usize) -> bool
     k < 16 && (mask >> k) % 2 == 1
 }
 
-// Refuses the sample of row k + 1 that an answer asks for, if it does.
+// Refuses the sample of row k + 1 that an answer asks for, if it does. The answer of a policy is a pair, the form
+// that was asked for. Rows and answer are in no struct: some steps read the rows, and some change them.
 fn check_sample(rows: &[Row], answer: (u16, u8), k: usize) -> Result<(), Fault>
     requires { k < 16 }
     ensures { result_err result ≡ sample_fault answer rows.now k }
 {
+    // `as`: a place below 16 loses no bit, and a `try_from` would have an error that cannot come
     let row = k as u8 + 1;
     if !is_named(answer.0, k) {
         return Ok(());
@@ -40,7 +43,7 @@ fn check_sample(rows: &[Row], answer: (u16, u8), k: usize) -> Result<(), Fault>
 
 // Refuses the first sample at fault, lowest row first.
 fn check_samples(rows: &[Row], answer: (u16, u8)) -> Result<(), Fault>
-    ensures { result_err result ≡ first_fault (sample_fault answer rows.now) 0 16 }
+    ensures { result_err result ≡ first_of (sample_fault answer rows.now) 0 16 }
 {
     if answer.0 == 0 {
         return Ok(());
@@ -85,11 +88,7 @@ fn margin_of(rows: &[Row]) -> u16
     requires { Spare rows.now 0 }
     ensures { Spare rows.now result }
 {
-    let mut margin = u16::MAX;
-    for row in rows {
-        margin = margin.min(row.reading.validity - row.age);
-    }
-    margin
+    rows.iter().map(Row::margin).min().unwrap_or(u16::MAX)
 }
 
 // The margin a slot later: one less, or worked out anew where it was used up.
@@ -117,7 +116,8 @@ fn open_all(rows: &mut [Row], answer: (u16, u8))
     }
 }
 
-// Step 2: runs the row to run, if there is one.
+// Step 2: runs the row to run, if there is one. By index, since std says of a `get_mut` no more of the
+// slice after it than its length.
 fn run_one(rows: &mut [Row], answer: (u16, u8))
     ensures { rows.new ≡ each_from (run answer) 0 rows.old }
 {
@@ -128,8 +128,8 @@ fn run_one(rows: &mut [Row], answer: (u16, u8))
 }
 
 // Steps 3 and 5: lets a slot pass for all rows, closes the jobs without work left, and answers the lowest row
-// whose value goes on show, or 0.
-fn pass_all(rows: &mut [Row]) -> u8
+// whose value goes on show, if one does.
+fn pass_all(rows: &mut [Row]) -> Option<u8>
     requires few { length rows.old ≤ 16 }
     requires young { Young rows.old }
     ensures told { result ≡ lowest_from finishes 0 rows.old }
@@ -139,14 +139,16 @@ fn pass_all(rows: &mut [Row]) -> u8
     for (k, row) in rows.iter_mut().enumerate() {
         row.grow();
         if row.close() {
+            // `as`: a place below 16 loses no bit
             shown = shown.or(Some(k as u8 + 1));
         }
     }
-    shown.unwrap_or(0)
+    shown
 }
 
-// Takes all rows through a slot, and answers the row whose value goes on show, or 0.
-fn turn_all(rows: &mut [Row], answer: (u16, u8)) -> u8
+// Takes all rows through a slot, and answers the row whose value goes on show, if one does. That there are at most 16 is
+// asked, here and above, since a slice does not say that `Rows` lent it.
+fn turn_all(rows: &mut [Row], answer: (u16, u8)) -> Option<u8>
     requires few { length rows.old ≤ 16 }
     requires young { Young rows.old }
     ensures told { result ≡ shown_row answer rows.old }
@@ -164,13 +166,9 @@ impl Books {
         ensures value { rows_of result ≡ map come_on (readings_of list.now) }
         ensures ages { AgesCounted (rows_of result) }
     {
-        let blank = Row::new(&Reading {
-            id: 0,
-            work: 0,
-            validity: 0,
-        });
+        let blank = Row::new(&Reading::default());
         Books {
-            rows: Rows::of(list.rows(), blank, |reading| Row::new(reading)),
+            rows: Rows::of(list.rows(), blank, Row::new),
             margin: 0,
         }
     }
@@ -185,12 +183,13 @@ impl Books {
 
     // Refuses the first row that is stale once all ages have grown: none within the margin.
     fn check_ages(&self) -> Result<(), Fault>
-        ensures { result_err result ≡ first_fault (grown_fault (rows_of self.now)) 0 (length (rows_of self.now)) }
+        ensures { result_err result ≡ first_of (grown_fault (rows_of self.now)) 0 (length (rows_of self.now)) }
     {
         if self.margin > 0 {
             return Ok(());
         }
         for (k, row) in self.rows().iter().enumerate() {
+            // `as`: a place below 16 loses no bit
             row.check_next(k as u8 + 1)?;
         }
         Ok(())
@@ -205,9 +204,9 @@ impl Books {
         self.check_ages()
     }
 
-    // Takes the answer for a slot: the row whose value went on show, or 0; or the slot's first fault, and then
-    // the books are as they were.
-    pub fn take(&mut self, answer: (u16, u8)) -> Result<u8, Fault>
+    // Takes the books through a slot with this answer, and answers the row whose value went on show, if one did; or
+    // answers the slot's first fault, and then the books are as they were.
+    pub fn take(&mut self, answer: (u16, u8)) -> Result<Option<u8>, Fault>
         ensures { elim result [
           | Ok row ↦ (fault answer (rows_of self.old) ≡ None)
               × (row ≡ shown_row answer (rows_of self.old))
@@ -222,7 +221,7 @@ impl Books {
     }
 
     // Whether all that is kept of each row is equal: then both stay equal under equal answers. No `==` of the
-    // whole, since the margin does not count.
+    // whole: the margin does not count, nor what stands past the last row.
     pub fn same(&self, other: &Books) -> bool
         ensures value { result ≡ same_rows (rows_of self.now) (rows_of other.now) }
         ensures exact { IsTrue result ↔ (rows_of self.now ≡ rows_of other.now) }

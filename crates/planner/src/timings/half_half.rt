@@ -13,10 +13,7 @@ use rows::rows::Rows;
 fn half_timed(reading: &Reading) -> Timing
     ensures { result ≡ half_timed reading.now }
 {
-    Timing {
-        work: reading.work,
-        period: reading.validity / 2,
-    }
+    Timing::new(reading, reading.validity / 2)
 }
 
 impl Timings {
@@ -24,9 +21,8 @@ impl Timings {
     pub fn half_half(list: &Readings) -> Timings
         ensures { timings_of result ≡ half_half (rows_of list.now) }
     {
-        let blank = Timing { work: 0, period: 0 };
         Timings {
-            rows: Rows::of(list.rows(), blank, |reading| half_timed(reading)),
+            rows: Rows::of(list.rows(), Timing::default(), half_timed),
         }
     }
 }

@@ -17,10 +17,7 @@ fn timed(reading: &Reading, response: u16) -> Timing
     requires { response ≤ reading.now.validity }
     ensures { result ≡ timed reading.now (reading.now.validity - response) }
 {
-    Timing {
-        work: reading.work,
-        period: reading.validity - response,
-    }
+    Timing::new(reading, reading.validity - response)
 }
 
 impl Timings {
@@ -33,10 +30,11 @@ impl Timings {
         ] }
         ensures law { Planned (rows_of list.now) (more_less (rows_of list.now)) }
     {
-        let mut rows = Rows::new(Timing { work: 0, period: 0 });
+        let mut rows = Rows::new(Timing::default());
         for (k, reading) in list.rows().iter().enumerate() {
+            // `as`: a place below 16 loses no bit, and a `try_from` would have an error that cannot come
             let none = Refusal::Response { row: k as u8 + 1 };
-            let response = response_time(rows.as_slice(), reading).ok_or(none)?;
+            let response = response_time(&rows, reading).ok_or(none)?;
             rows.push(timed(reading, response));
         }
         Ok(Timings { rows })

@@ -1,5 +1,5 @@
 ghost use Rattle.std.specs.Prelude.{◌≡◌, ℕ, ◌<◌, ◌≤◌, map, length, Some, None, Ok, Err};
-ghost use Rattle.readings.specs.Lists.{has_id, in_range, kept, list_count, list_refusal, row_refusal, rows_of, rows_refusal};
+ghost use Rattle.readings.specs.Lists.{has_id, in_range, kept, list_count, list_refusal, out_of_order, row_refusal, rows_of, rows_refusal};
 ghost use Rattle.readings.specs.Ranges.{WellMade};
 ghost use Rattle.readings.specs.Refusals.{refusal_of, told};
 
@@ -12,7 +12,7 @@ use rows::rows::Rows;
 fn is_count(rows: usize) -> bool
     ensures { result ≡ list_count rows }
 {
-    1 <= rows && rows <= 16
+    (1..=16).contains(&rows)
 }
 
 impl Proposal {
@@ -20,10 +20,8 @@ impl Proposal {
     fn in_range(&self) -> bool
         ensures { result ≡ in_range self.now }
     {
-        1 <= self.work
-            && self.work <= 255
-            && 2 <= self.validity
-            && self.validity <= 4095
+        (1..=255).contains(&self.work)
+            && (2..=4095).contains(&self.validity)
             && self.work <= self.validity
     }
 
@@ -49,34 +47,39 @@ fn has_id(id: u32, rows: &[Proposal]) -> bool
     rows.iter().any(|row| row.id == id)
 }
 
-// Refuses row k + 1 for the first thing that is wrong with it.
-fn check_row(rows: &[Proposal], k: usize) -> Result<(), Refusal>
-    requires listed { k < length rows.now }
-    requires few { k < 16 }
-    ensures { refusal_of result ≡ row_refusal rows.now k }
+// Whether a row has a smaller validity than the last of the rows above it.
+fn is_out_of_order(above: &[Proposal], it: &Proposal) -> bool
+    ensures { result ≡ out_of_order above.now it.now }
 {
-    let row = k as u8 + 1;
-    let it = rows[k];
-    let above = rows[k.saturating_sub(1)];
+    above.last().is_some_and(|last| it.validity < last.validity)
+}
+
+// Refuses a row below these for the first thing that is wrong with it.
+fn check_row(above: &[Proposal], it: &Proposal) -> Result<(), Refusal>
+    requires { length above.now < 16 }
+    ensures { refusal_of result ≡ row_refusal above.now it.now }
+{
+    // `as`: a place below 16 loses no bit, and a `try_from` would have an error that cannot come
+    let row = above.len() as u8 + 1;
     if !it.in_range() {
         return Err(Refusal::Range { row });
     }
-    if it.id < 1 || 65535 < it.id || has_id(it.id, &rows[0..k]) {
+    if !(1..=65535).contains(&it.id) || has_id(it.id, above) {
         return Err(Refusal::Id { row });
     }
-    if it.validity < above.validity {
+    if is_out_of_order(above, it) {
         return Err(Refusal::Order { row });
     }
     Ok(())
 }
 
-// Refuses the first row with something wrong. By index, which gives a row its number and ends the rows above it.
+// Refuses the first row with something wrong.
 fn check_rows(rows: &[Proposal]) -> Result<(), Refusal>
     requires { length rows.now ≤ 16 }
-    ensures { refusal_of result ≡ rows_refusal rows.now 0 (length rows.now) }
+    ensures { refusal_of result ≡ rows_refusal rows.now }
 {
-    for k in 0..rows.len() {
-        check_row(rows, k)?;
+    for (k, row) in rows.iter().enumerate() {
+        check_row(&rows[..k], row)?;
     }
     Ok(())
 }
@@ -94,12 +97,7 @@ impl Readings {
             return Err(Refusal::Count);
         }
         check_rows(given)?;
-        let blank = Reading {
-            id: 0,
-            work: 0,
-            validity: 0,
-        };
-        let rows = Rows::of(given, blank, |row| row.kept());
+        let rows = Rows::of(given, Reading::default(), Proposal::kept);
         Ok(Readings { rows })
     }
 

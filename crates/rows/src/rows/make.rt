@@ -1,7 +1,7 @@
 ghost use Rattle.std.specs.Prelude.{◌≡◌, ◌≤◌, ◌-◌, length, take, drop, replicate, map, ◌++◌, ◌∷◌, []};
 ghost use Rattle.std.specs.Fn.{FnOnceReturnsAtMut, FnOnceTakesAtMut};
 ghost use Rattle.rows.specs.Held.{past, rows_of};
-ghost use Rattle.rows.specs.Made.{Computes, TakesEach};
+ghost use Rattle.rows.specs.Made.{Computes, MadeEach, TakesEach};
 
 use super::Rows;
 
@@ -36,10 +36,13 @@ impl<T: Copy> Rows<T> {
         }
     }
 
-    // Lends the rows for a change in place: what the change makes of them, they are then.
+    // Lends the rows for a change in place, and keeps what the change leaves. Their number stays, and so does what stands
+    // past the last.
     pub fn lend<R, F: FnOnce(&mut [T]) -> R>(&mut self, change: F) -> R
         requires { FnOnceTakesAtMut F.FnOnce change (rows_of self.old) }
-        ensures { FnOnceReturnsAtMut F.FnOnce change (rows_of self.old) result (rows_of self.new) }
+        ensures rows { FnOnceReturnsAtMut F.FnOnce change (rows_of self.old) result (rows_of self.new) }
+        ensures count { self.new.count ≡ self.old.count }
+        ensures rest { past self.new ≡ past self.old }
     {
         change(&mut self.items[..self.count])
     }
@@ -48,6 +51,8 @@ impl<T: Copy> Rows<T> {
     pub fn of<X, F: Fn(&X) -> T>(given: &[X], blank: T, make: F) -> Rows<T>
         requires { TakesEach F.Fn make given.now }
         ensures rows { (f : _ → _) → Computes F.Fn make f → rows_of result ≡ map f (take 16 given.now) }
+        ensures each { MadeEach F.Fn make given.now (rows_of result) }
+        ensures count { length (rows_of result) ≡ length (take 16 given.now) }
         ensures rest { past result ≡ replicate (16 - length (rows_of result)) blank }
     {
         let mut rows = Rows::new(blank);

@@ -31,9 +31,10 @@ fn note(row: &Row, before: Option<u16>, instant: u16) -> Option<u16>
 }
 
 // Notes the instant for each row that has a value on show and nothing noted yet, and says whether something is
-// then noted of every row. The notes stand beside the rows, which are the walker's own and are only read.
-fn note_all(notes: &mut [Option<u16>; 16], rows: &[Row], instant: u16) -> bool
-    requires { length rows.now ≤ 16 }
+// then noted of every row. The notes stand beside the rows, which are the walker's own and are only read; by index,
+// since std says of a `zip` of `iter_mut` nothing that the lent notes keep.
+fn note_all(notes: &mut [Option<u16>], rows: &[Row], instant: u16) -> bool
+    requires { length notes.old ≡ length rows.now }
     ensures noted { (k : ℕ) → k < length rows.now → slice_index_or notes.new k None ≡ noted instant (slice_index_or rows.now k blank_row) (slice_index_or notes.old k None) }
     ensures all { result ≡ true → (k : ℕ) → k < length rows.now → slice_index_or notes.new k None ≢ None }
 {
@@ -46,11 +47,11 @@ fn note_all(notes: &mut [Option<u16>; 16], rows: &[Row], instant: u16) -> bool
     all
 }
 
-// The instants that are noted.
-fn instants_of(notes: &[Option<u16>]) -> Rows<u16>
-    ensures { held result ≡ map (λ o. unwrap_or o 0) (take 16 notes.now) }
+// The instants that are noted, and 0 for none; of an accepted plan every row has one.
+fn instants_of(notes: &Rows<Option<u16>>) -> Rows<u16>
+    ensures { held result ≡ map (λ o. unwrap_or o 0) (held notes.now) }
 {
-    Rows::of(notes, 0, |note| note.unwrap_or(0))
+    Rows::of(notes.as_slice(), 0, |note| note.unwrap_or(0))
 }
 
 // The first finish of each row along a course that has no fault: no row waits longer than its validity, which
@@ -63,43 +64,43 @@ fn first_finishes<P: Policy>(start: &Walker<P>) -> Rows<u16>
     ensures finish { (k : ℕ) → k < length (rows_of start.now.books) → FirstFinish (P.Policy.course (P.Policy.position start.now.policy)) (rows_of start.now.books) k (slice_index (held result) k) }
 {
     let mut walker = start.copy();
-    let mut notes = [None; 16];
-    let rows = start.books.rows().len();
+    let mut notes = Rows::of(start.books.rows(), None, |_| None);
     for slot in 0..4095u16 {
+        let instant = slot + 1;
         let _ = walker.step();
-        if note_all(&mut notes, walker.books.rows(), slot + 1) {
-            return instants_of(&notes[..rows]);
+        let all = notes.lend(
+            |noted|
+                requires { length noted.old ≡ length (rows_of walker.books) }
+            { note_all(noted, walker.books.rows(), instant) },
+        );
+        if all {
+            break;
         }
     }
-    instants_of(&notes[..rows])
+    instants_of(&notes)
 }
 
 // The plan whose books and position at an instant repeat those at its mark.
-fn accept<P>(
-    list: &Readings,
-    policy: P,
-    mark: u16,
-    instant: u16,
-    finishes: Rows<u16>,
-) -> Accepted<P>
-    requires later { mark ≤ instant }
+fn accept<P>(list: &Readings, policy: P, repeat: Repeat, finishes: Rows<u16>) -> Accepted<P>
+    requires later { repeat.mark ≤ repeat.instant }
     requires each { OneEach (readings_of list.now) (held finishes) }
     ensures list { result.list ≡ list.now }
     ensures policy { result.policy ≡ policy }
-    ensures mark { result.mark ≡ mark }
-    ensures length { result.length ≡ instant - mark }
+    ensures mark { result.mark ≡ repeat.mark }
+    ensures length { result.length ≡ repeat.instant - repeat.mark }
     ensures finishes { result.finishes ≡ finishes }
 {
     Accepted {
         list: *list,
         policy,
-        mark,
-        length: instant - mark,
+        mark: repeat.mark,
+        length: repeat.instant - repeat.mark,
         finishes,
     }
 }
 
-// The refusal of a walk whose search has no repeat: that of the fault that it met, or 13.
+// The refusal of a walk whose search has no repeat: that of the fault that it met, or 13. No `From`: both types are of
+// other crates.
 fn refusal_of(end: NoRepeat<Fault>) -> Refusal
     ensures { told result ≡ end_told end }
 {
@@ -112,7 +113,8 @@ fn refusal_of(end: NoRepeat<Fault>) -> Refusal
 impl<P: Policy> Accepted<P> {
     // Walks a policy with new books for a list: accepts it at the first instant, from 1 to 32,767, where books and
     // position equal those at the instant's mark, or refuses it for the first fault before that, or for want of a
-    // repeat.
+    // repeat. The clauses name the three members of the policy: a member that bundled them would be one more for each
+    // kind of policy to define.
     pub fn walk(list: &Readings, policy: P) -> Result<Accepted<P>, Refusal>
         ensures walks { Walks (record { course = P.Policy.course; next = P.Policy.next; alike = P.Policy.alike }) (P.Policy.position policy) (new_rows list.now) (outcome result) }
         ensures only { (x : Outcome) → Walks (record { course = P.Policy.course; next = P.Policy.next; alike = P.Policy.alike }) (P.Policy.position policy) (new_rows list.now) x → x ≡ outcome result }
@@ -123,9 +125,9 @@ impl<P: Policy> Accepted<P> {
             policy,
             books: Books::new(list),
         };
-        let Repeat { mark, instant } = first_repeat(&walker, 32767).map_err(refusal_of)?;
+        let repeat = first_repeat(&walker, 32767).map_err(refusal_of)?;
         let finishes = first_finishes(&walker);
         let Walker { policy, books: _ } = walker;
-        Ok(accept(list, policy, mark, instant, finishes))
+        Ok(accept(list, policy, repeat, finishes))
     }
 }

@@ -1,7 +1,7 @@
-use Rattle.std.proofs.Common.{Ok, refl}
+use Rattle.std.proofs.Common.{Ok}
 use Rattle.repeat.proofs.Ever.{ever_calm}
 use Rattle.repeat.proofs.Marks.{largest}
-use Rattle.repeat.proofs.Turning.{onward, repeat_found}
+use Rattle.repeat.proofs.Turning.{repeat_found}
 use Rattle.repeat.proofs.Unique.{only}
 use Rattle.repeat.specs.Finds.{Stepping}
 use Rattle.repeat.specs.Turns.{states_of}
@@ -23,11 +23,3 @@ returns-in-Some g c =
       ever = ever_calm steps g.met.S.Stepper.lasting s limit end.mark end.instant found;
       marks = largest;
     }
-
-pub loop-slot-preserved : goal.loop-slot-preserved
-loop-slot-preserved g c =
-    let m = g.S.Stepper in
-    let steps : Stepping m.State g.row.S-Fault.Denot = record { fault = m.fault; next = m.next; alike = m.alike } in
-    let loop = c.loop-slot in
-    let turn = rw c.in_default.is at c.in_ok-repeat.ensures in
-    onward steps (m.state c.args.start.now) loop.slot (states_of m.state loop.search) loop.invariant (states_of m.state c.turn.new.self) turn.ends (turn.onward refl)

@@ -1,7 +1,7 @@
 use Rattle.std.proofs.Common.{◌≡◌, length}
 use Rattle.books.specs.Held.{rows_of}
 use Rattle.books.specs.Parts.{grown_fault}
-use Rattle.books.proofs.Firsts.{NoneBelow}
+use Rattle.readings.proofs.Firsts.{NoneBelow}
 use Rattle.books.proofs.books.Books.check_ages.Given as goal
 
 abbrev pub invariant-loop-k : goal.invariant-loop-k

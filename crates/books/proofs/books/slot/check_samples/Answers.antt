@@ -1,6 +1,6 @@
 use Rattle.std.proofs.lemmas.Result.{err_from_is_err_and}
 use Rattle.books.specs.Slots.{sample_fault}
-use Rattle.books.proofs.Firsts.{first_all, first_found, first_more, first_none}
+use Rattle.readings.proofs.Firsts.{first_all, first_found, first_more, first_none}
 use Rattle.books.proofs.Named.{none_sampled}
 use Rattle.books.proofs.books.slot.check_samples.Goals as goal
 

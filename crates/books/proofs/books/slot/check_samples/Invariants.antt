@@ -1,5 +1,5 @@
 use Rattle.books.specs.Slots.{sample_fault}
-use Rattle.books.proofs.Firsts.{NoneBelow}
+use Rattle.readings.proofs.Firsts.{NoneBelow}
 use Rattle.books.proofs.books.slot.check_samples.Given as goal
 
 abbrev pub invariant-loop-k : goal.invariant-loop-k

@@ -1,24 +1,12 @@
-use Rattle.std.proofs.Common.{◌≡◌, ◌∙◌, get_or, refl, ap, arith, subst, sym, ◌+◌}
+use Rattle.std.proofs.Common.{◌≡◌, ◌∙◌, get_or, ap, arith, subst, sym, ◌+◌}
 use Rattle.std.proofs.lemmas.List.{get_or-set_other}
 use Rattle.books.specs.Parts.{finishes, passed}
-use Rattle.books.specs.Rows.{blank_row, closed, finished, job_age}
+use Rattle.books.specs.Rows.{blank_row, closed, finished}
 use Rattle.books.specs.declared.row.Row.{Row}
-use Rattle.books.proofs.Each.{taken_all, taken_more}
-use Rattle.books.proofs.Turns.{ShownBelow, shown_all, shown_here, shown_not}
+use Rattle.books.proofs.Each.{taken_more}
+use Rattle.books.proofs.Turns.{ShownBelow, shown_here, shown_not}
 use Rattle.books.proofs.books.slot.pass_all.Goals as goal
 use Rattle.books.proofs.books.slot.pass_all.Goals.{then-close, else-close}
-
-pub loop-k-init : goal.loop-k-init
-loop-k-init c = (refl, λ j h. refl, refl)
-
-pub grow-requires : goal.grow-requires
-grow-requires c =
-    let k = c.loop-k.k in
-    let e = c.loop-k.invariant.1 k (omega arith) in
-    let young = c.requires.young k c.loop-k-test.true in
-    let a : (get_or c.loop-k.rows k blank_row).age ≡ (get_or c.args.rows.now k blank_row).age = ap (λ (r : Row). r.age) e in
-    let b : job_age (get_or c.loop-k.rows k blank_row).job ≡ job_age (get_or c.args.rows.now k blank_row).job = ap (λ (r : Row). job_age r.job) e in
-    record { age = omega arith; job = omega arith }
 
 pub loop-k-preserved : goal.loop-k-preserved
 loop-k-preserved c =
@@ -35,9 +23,3 @@ loop-k-preserved c =
         | else-close w ↦ subst (ShownBelow (k + 1) old) (sym w.shown-is) (shown_not k old c.loop-k.shown inside c.loop-k.invariant.2 (sym w.if-close.false ∙ told))
       ],
     )
-
-pub returns : goal.returns
-returns c = record {
-  told = c.unwrap_or.ensures ∙ shown_all c.loop-k.k c.args.rows.now c.loop-k.shown c.loop-k-test.false c.loop-k.invariant.2;
-  done = taken_all passed c.loop-k.k c.args.rows.now c.loop-k.rows (omega arith) c.loop-k.invariant.0;
-}

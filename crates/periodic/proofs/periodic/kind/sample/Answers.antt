@@ -1,11 +1,8 @@
 use Rattle.std.proofs.Common.{◌+◌, ◌∙◌, set, ap, sym, subst, arith}
 use Rattle.periodic.proofs.Masks.{mask_fits, bit_fits}
-use Rattle.periodic.proofs.Samples.{SampledBelow, room, sampled_all, sampled_due, sampled_none, sampled_not}
+use Rattle.periodic.proofs.Samples.{SampledBelow, room, sampled_due, sampled_not}
 use Rattle.periodic.proofs.periodic.kind.sample.Goals as goal
 use Rattle.periodic.proofs.periodic.kind.sample.Goals.{then-sample, else-sample}
-
-pub loop-k-init : goal.loop-k-init
-loop-k-init c = sampled_none c.args.rows.now
 
 pub overflow_add-mask : goal.overflow_add-mask
 overflow_add-mask c =
@@ -28,6 +25,3 @@ loop-k-preserved c =
           subst (λ m. SampledBelow (k + 1) old m (set rows k r)) (sym w.mask-is)
           (sampled_not k old c.loop-k.mask rows c.loop-k-test.true c.loop-k.invariant r (omega arith) w.if-sample.ensures.said c.sample.ensures.taken)
     ]
-
-pub returns : goal.returns
-returns c = let a = sampled_all c.loop-k.k c.args.rows.now c.loop-k.mask c.loop-k.rows c.loop-k-test.false c.loop-k.invariant in record { told = a.0; taken = a.1 }

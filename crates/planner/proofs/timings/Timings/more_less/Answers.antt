@@ -20,8 +20,9 @@ returns-clause-law c = planned (readings_of c.args.list.now)
 pub timed-requires : goal.timed-requires
 timed-requires c =
     let it = get_or c.rows-reading-items.result.now c.loop-k.k no_reading in
-    let found : response_time c.as_slice.result.now it.work it.validity ≡ Some c.in_ok-response.response = grind arith in
-    let d = response_is c.as_slice.result.now it.work it.validity c.in_ok-response.response found in
+    let above = rows_of c.loop-k.rows in
+    let found : response_time above it.work it.validity ≡ Some c.in_ok-response.response = grind arith in
+    let d = response_is above it.work it.validity c.in_ok-response.response found in
     omega (arith, d.half)
 
 pub loop-k-preserved : goal.loop-k-preserved
@@ -31,8 +32,7 @@ loop-k-preserved c =
     let it = get_or given k no_reading in
     let above = rows_of c.loop-k.rows in
     let new = c.timed.result in
-    let found : response_time c.as_slice.result.now it.work it.validity ≡ Some c.in_ok-response.response = grind arith in
-    let d : response_time above it.work it.validity ≡ Some c.in_ok-response.response = rw c.as_slice.ensures.rows at found in
+    let d : response_time above it.work it.validity ≡ Some c.in_ok-response.response = grind arith in
     let v = c.rows-reading-items.ensures.law.validities k c.loop-k-test.true in
     let half = (response_is above it.work it.validity c.in_ok-response.response d).half in
     let room : length (above ++ new ∷ []) ≤ 16 = omega (arith, length_push above new, c.loop-k.invariant.2, c.rows-reading-items.ensures.law.few) in

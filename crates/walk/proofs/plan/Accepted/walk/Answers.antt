@@ -12,19 +12,19 @@ use Rattle.rows.specs.Held.{rows_of as held}
 use Rattle.walk.specs.Walking.{fault_is}
 use Rattle.walk.proofs.plan.Accepted.walk.Goals as goal
 
-pub returns-in_err-mark : goal.returns-in_err-mark
-returns-in_err-mark g c =
+pub returns-in_err-repeat : goal.returns-in_err-repeat
+returns-in_err-repeat g c =
     let kind : Kind g.P.Policy.Position = record { course = g.P.Policy.course; next = g.P.Policy.next; alike = g.P.Policy.alike } in
     let search = c.first_repeat in
     let p = err_from_is_err_and c.from_residual.result c.from_residual.ensures.1 in
-    let is : outcome c.from_residual.result ≡ as_outcome search.result = rw (p.1, p.2) (refusal_told search.result c.map_err.result c.in_err-mark.field-0.0 c.map_err.ensures.cases c.in_err-mark.was) in
+    let is : outcome c.from_residual.result ≡ as_outcome search.result = rw (p.1, p.2) (refusal_told search.result c.map_err.result c.in_err-repeat.field-0.0 c.map_err.ensures.cases c.in_err-repeat.was) in
     let w = walked kind g.met.P.Policy.onward (g.P.Policy.position c.args.policy) (rows_of c.new.result) _ c.new.ensures.value search.result search.ensures.found search.ensures.only _ is in
     record { walks = w.walks; only = w.only; plan = rw (p.1) tt; ever = rw (p.1) tt }
 
 pub first_finishes-finishes-requires : goal.first_finishes-finishes-requires
 first_finishes-finishes-requires g c =
     let p = g.P.Policy.position c.args.policy in
-    let found : c.first_repeat.result ≡ Ok c.in_ok-mark.field-0 = grind arith in
+    let found : c.first_repeat.result ≡ Ok c.in_ok-repeat.repeat = grind arith in
     let calm = rw found at c.first_repeat.ensures.ever in
     record {
       calm = λ n. sym (fault_is g.P.Policy.course g.P.Policy.next g.met.P.Policy.onward p (rows_of c.new.result) n) ∙ calm n;
@@ -37,7 +37,7 @@ returns g c =
     let p = g.P.Policy.position c.args.policy in
     let kind : Kind g.P.Policy.Position = record { course = g.P.Policy.course; next = g.P.Policy.next; alike = g.P.Policy.alike } in
     let search = c.first_repeat in
-    let found : search.result ≡ Ok c.in_ok-mark.field-0 = grind arith in
+    let found : search.result ≡ Ok c.in_ok-repeat.repeat = grind arith in
     let is = c.accept.ensures in
     let end : granted c.accept.result.mark c.accept.result.length ≡ as_outcome search.result = rw (is.mark, is.length, found) refl in
     let w = walked kind g.met.P.Policy.onward p (rows_of c.new.result) _ c.new.ensures.value search.result search.ensures.found search.ensures.only _ end in

@@ -2,6 +2,7 @@ use Rattle.std.proofs.Common.{◌≡◌, ℕ, ◌<◌, List, length, get_or, Non
 use Rattle.repeat.specs.Marks.{after}
 use Rattle.books.specs.Held.{rows_of}
 use Rattle.books.specs.declared.row.Row.{Row}
+use Rattle.rows.specs.Held.{rows_of as held}
 use Rattle.walk.specs.Steps.{walk_next}
 use Rattle.walk.proofs.Finishing.{Noted}
 use Rattle.walk.proofs.plan.accept.first_finishes.Given as goal
@@ -11,4 +12,5 @@ invariant-loop-slot g l =
     let p = g.P.Policy.position l.start.policy in
     let rs = rows_of l.start.books in
     (◌≡◌ {A = g.P.Policy.Position × List Row} (g.P.Policy.position l.walker.policy, rows_of l.walker.books) (after (walk_next g.P.Policy.course g.P.Policy.next) l.slot (p, rs)))
-    × ((k : ℕ) → k < length rs → Noted (g.P.Policy.course p) rs k l.slot (get_or l.notes k None))
+    × ((k : ℕ) → k < length rs → Noted (g.P.Policy.course p) rs k l.slot (get_or (held l.notes) k None))
+    × (length (held l.notes) ≡ length rs)
