@@ -58,7 +58,7 @@ sample_fault a rs k =
     else if nat_lt k (length rs) then row_fault Sample (slice_index_or rs k blank_row) (k + 1)
     else Some (JobRule (k + 1))
 
--- step 2: to run a row without a job, or a row that the list lacks; 0 runs none
+-- step 2: to run a row without a job that has work left, or a row that the list lacks; 0 runs none
 abbrev pub run_fault : Answer → List Row → Option Fault
 run_fault a rs =
     if a.1 == 0 then None

@@ -7,7 +7,7 @@ use readings::refusal::Refusal;
 // What is wrong with an answer for a slot, with the row, counted from 1.
 #[derive(Clone, Copy, PartialEq, Eq, Debug)]
 pub enum Fault {
-    // a row is sampled while its job is open, or run without one, or the list lacks it
+    // a row is sampled while its job is open, or run without one that has work left, or the list lacks it
     JobRule { row: u8 },
     // a row's age exceeds its validity
     Stale { row: u8 },

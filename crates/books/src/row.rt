@@ -40,8 +40,8 @@ impl Row {
         }
     }
 
-    // Refuses the row, number `row`, for what is wrong with it in a step of a slot. One match with guards decides it
-    // for the three steps, the form that was asked for.
+    // Refuses the row, number `row`, for what is wrong with it in a step of a slot: one match with guards for the three
+    // steps in which a row may be at fault.
     pub(crate) fn check(&self, step: Step, row: u8) -> Result<(), Fault>
         ensures { result_err result ≡ row_fault step self.now row }
     {

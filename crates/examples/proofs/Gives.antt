@@ -18,11 +18,11 @@ abbrev pub course_y : Course
 course_y = periodic_course (start timings_y)
 
 -- P of each number below n, one by one
-abbrev Each : (ℕ → Type 0) → ℕ → Type 0
+abbrev pub Each : (ℕ → Type 0) → ℕ → Type 0
 Each P zero = Unit {0}
 Each P (suc n) = Each P n × P n
 
-each_below : (P : ℕ → Type 0) (n : ℕ) → Each P n → (k : ℕ) → k < n → P k
+pub each_below : (P : ℕ → Type 0) (n : ℕ) → Each P n → (k : ℕ) → k < n → P k
 each_below P zero e k l = below_none P k l
 each_below P (suc n) (e, h) k l = below_more P n (each_below P n e) h k (rw add-one l)
 

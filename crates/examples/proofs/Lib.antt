@@ -1,5 +1,6 @@
 mod Gives
 mod Only
+mod Periods
 mod Running
 mod Told
 mod Walked

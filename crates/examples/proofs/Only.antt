@@ -1,14 +1,15 @@
 -- The rules give one ending only for each example.
-use Rattle.std.proofs.Common.{◌≡◌, ℕ, ◌+◌, ◌<◌, Bool, true, false, List, [], ◌∷◌, length, get_or, Some, Option, Ok, Err, Result, sym, refl, ap, ◌∙◌, subst, inl, inr}
+use Rattle.std.proofs.Common.{◌≡◌, ℕ, ◌+◌, ◌<◌, Bool, true, false, List, [], ◌∷◌, map, length, get_or, Some, Ok, Err, Result, sym, refl, ap, ◌∙◌, subst, inl, inr}
 use Rattle.std.proofs.lemmas.Bool.{both_ways, cases_order}
 use Rattle.std.proofs.lemmas.Bool.Decides.{same_from_decides}
 use Rattle.readings.specs.Ranges.{blank}
 use Rattle.readings.specs.Refusals.{told}
 use Rattle.readings.specs.declared.reading.Reading.{Reading}
 use Rattle.readings.specs.declared.refusal.Refusal.{Refusal}
-use Rattle.readings.specs.declared.refusal.Refusal.TheVariants.{JobRule, NoRepeat, Stale}
+use Rattle.readings.specs.declared.refusal.Refusal.TheVariants.{JobRule, NoRepeat, Response, Stale}
 use Rattle.policy.specs.Course.{Course}
 use Rattle.planner.specs.Periods.{half_half}
+use Rattle.planner.specs.declared.timing.Timing.{Timing}
 use Rattle.books.specs.Lookups.{row_of}
 use Rattle.books.specs.Slots.{books_at}
 use Rattle.books.specs.declared.row.Row.{Row}
@@ -16,12 +17,13 @@ use Rattle.walk.specs.Crossings.{MayCross, in_time}
 use Rattle.walk.specs.Finishes.{FirstFinish, shows}
 use Rattle.walk.specs.Walks.{Kind, Outcome, Walks, granted, refused}
 use Rattle.walk.proofs.Looking.{walks_one}
-use Rattle.examples.specs.Given.{CrossingEnds, CrossingTest, FinishEnds, RulesGive, SlotEnds, WalkEnds, XToY, asleep, doubting, new_books, periodic, readings_x, readings_y, start}
+use Rattle.examples.specs.Given.{CrossingEnds, CrossingTest, FinishEnds, PeriodEnds, ResponseEnds, RulesGive, SlotEnds, TooLongEnds, WalkEnds, XToY, asleep, doubting, new_books, periodic, readings_x, readings_y, readings_z, start}
 use Rattle.examples.specs.declared.asked.Asked.{Asked}
-use Rattle.examples.specs.declared.asked.Asked.TheVariants.{HalfHalfOfX, MoreLessOfX, FinishesOfX, MoreLessOfY, AgeTwelveOfY, AsleepOverX, DoubtingOverX, CrossingAtOne, CrossingAtSix, CrossingAtSeven}
+use Rattle.examples.specs.declared.asked.Asked.TheVariants.{HalfHalfPeriodsOfX, HalfHalfOfX, ResponsesOfX, PeriodsOfX, MoreLessOfX, FinishesOfX, PeriodsOfY, MoreLessOfY, RowThreeOfY, MoreLessOfZ, AsleepOverX, DoubtingOverX, CrossingAtOne, CrossingAtSix, CrossingAtSeven}
 use Rattle.examples.specs.declared.ending.Ending.{Ending}
-use Rattle.examples.specs.declared.ending.Ending.TheVariants.{Granted, Finishes, Shown, Says}
+use Rattle.examples.specs.declared.ending.Ending.TheVariants.{Granted, EachRow, Fresh, Says}
 use Rattle.examples.proofs.Gives.{age_twelve, at_one, at_seven, at_six, course_x, course_y, first_x, second_x, third_x}
+use Rattle.examples.proofs.Periods.{refusal_z, response_first, response_only, response_second, response_third, too_long}
 use Rattle.examples.proofs.Told.{refusal_of, refusal_told}
 use Rattle.examples.proofs.Walked.{asleep_walks, doubting_walks, given_x, given_y, half_half_walks, known, onward, timings_x, timings_y, walks_x, walks_y}
 
@@ -36,6 +38,24 @@ module _ {Pos : Type 0} (kind : Kind Pos) (on : (p : Pos) (n : ℕ) → kind.cou
   walk_only (Err r) v = ap Err (sym (refusal_told r)) ∙ ap answer_of (walks_one kind on p (new_books ds) (refused (told r)) x v w)
   walk_only (Ok _) v = absurd v
 
+periods_only : (ts : List Timing) (a b c : ℕ) → map (λ (t : Timing). t.period) ts ≡ a ∷ b ∷ c ∷ [] → (e : Result Ending Refusal) → PeriodEnds ts e → e ≡ Ok (EachRow a b c)
+periods_only ts a b c is (Ok (EachRow first second third)) v =
+    let same : ◌≡◌ {A = List ℕ} (first ∷ second ∷ third ∷ []) (a ∷ b ∷ c ∷ []) = sym v ∙ is in
+    cc
+periods_only ts a b c is _ v = absurd v
+
+responses_only : (e : Result Ending Refusal) → ResponseEnds readings_x timings_x e → e ≡ Ok (EachRow 1 3 6)
+responses_only (Ok (EachRow first second third)) v =
+    let a = response_only _ _ _ first 1 v.0 response_first in
+    let b = response_only _ _ _ second 3 v.1 response_second in
+    let c = response_only _ _ _ third 6 v.2 response_third in
+    cc
+responses_only _ v = absurd v
+
+too_long_only : (e : Result Ending Refusal) → TooLongEnds readings_z 1 7 e → e ≡ Err (Response 2)
+too_long_only (Ok _) v = absurd v
+too_long_only (Err r) v = ap Err (refusal_z r v.refused)
+
 -- a row has one first finish
 finish_only : (c : Course) (rs : List Row) (k m n : ℕ) → FirstFinish c rs k m → FirstFinish c rs k n → m ≡ n
 finish_only c rs k m n v w =
@@ -45,16 +65,16 @@ finish_only c rs k m n v w =
       | inr (inr more) ↦ absurd (both_ways (shows c rs k n) (v.not_before n more) w.here)
     ]
 
-finishes_only : (e : Result Ending Refusal) → FinishEnds course_x readings_x e → e ≡ Ok (Finishes 1 3 6)
-finishes_only (Ok (Finishes first second third)) v =
+finishes_only : (e : Result Ending Refusal) → FinishEnds course_x readings_x e → e ≡ Ok (EachRow 1 3 6)
+finishes_only (Ok (EachRow first second third)) v =
     let a = finish_only course_x (new_books readings_x) 0 first 1 v.0 first_x in
     let b = finish_only course_x (new_books readings_x) 1 second 3 v.1 second_x in
     let c = finish_only course_x (new_books readings_x) 2 third 6 v.2 third_x in
     cc
 finishes_only _ v = absurd v
 
-slot_only : (e : Result Ending Refusal) → SlotEnds course_y readings_y 11 2 12 e → e ≡ Ok (Shown (Some 3))
-slot_only (Ok (Shown row)) v = ap (λ (r : Option ℕ). Ok (Shown r)) v.shows
+slot_only : (e : Result Ending Refusal) → SlotEnds course_y readings_y 11 2 e → e ≡ Ok (Fresh 12 (Some 3))
+slot_only (Ok (Fresh age shown)) v = let a : age ≡ 12 = sym v.reached in let s = v.shows in cc
 slot_only _ v = absurd v
 
 -- first finishes in one list or in another are the same, so that the test is
@@ -86,11 +106,16 @@ crossed_only n b w e g = crossing_only n b w e (known readings_y timings_y given
 
 -- the one answer of each example
 abbrev pub the_answer : Asked → Result Ending Refusal
+the_answer HalfHalfPeriodsOfX = Ok (EachRow 2 5 10)
 the_answer HalfHalfOfX = Err (JobRule 10 3)
+the_answer ResponsesOfX = Ok (EachRow 1 3 6)
+the_answer PeriodsOfX = Ok (EachRow 4 7 14)
 the_answer MoreLessOfX = Ok (Granted 31 28)
-the_answer FinishesOfX = Ok (Finishes 1 3 6)
+the_answer FinishesOfX = Ok (EachRow 1 3 6)
+the_answer PeriodsOfY = Ok (EachRow 6 6 6)
 the_answer MoreLessOfY = Ok (Granted 7 6)
-the_answer AgeTwelveOfY = Ok (Shown (Some 3))
+the_answer RowThreeOfY = Ok (Fresh 12 (Some 3))
+the_answer MoreLessOfZ = Err (Response 2)
 the_answer AsleepOverX = Err (Stale 5 1)
 the_answer DoubtingOverX = Err NoRepeat
 the_answer CrossingAtOne = Ok (Says false)
@@ -100,11 +125,16 @@ the_answer CrossingAtSeven = Ok (Says false)
 -- the rules give it
 given : (a : Asked) → RulesGive a (the_answer a)
 unfolding RulesGive
+given HalfHalfPeriodsOfX = refl
 given HalfHalfOfX = half_half_walks
+given ResponsesOfX = (timings_x, (given_x, (response_first, response_second, response_third)))
+given PeriodsOfX = (timings_x, (given_x, refl))
 given MoreLessOfX = (timings_x, (given_x, walks_x))
 given FinishesOfX = (timings_x, (given_x, (first_x, second_x, third_x)))
+given PeriodsOfY = (timings_y, (given_y, refl))
 given MoreLessOfY = (timings_y, (given_y, walks_y))
-given AgeTwelveOfY = (timings_y, (given_y, age_twelve))
+given RowThreeOfY = (timings_y, (given_y, age_twelve))
+given MoreLessOfZ = too_long
 given AsleepOverX = asleep_walks
 given DoubtingOverX = (timings_x, (given_x, doubting_walks))
 given CrossingAtOne = (timings_x, (given_x, (timings_y, (given_y, at_one))))
@@ -114,11 +144,16 @@ given CrossingAtSeven = (timings_x, (given_x, (timings_y, (given_y, at_seven))))
 -- and nothing else
 pub answer_is : (a : Asked) (e : Result Ending Refusal) → RulesGive a e → e ≡ the_answer a
 unfolding RulesGive
+answer_is HalfHalfPeriodsOfX e g = periods_only (half_half readings_x) 2 5 10 refl e g
 answer_is HalfHalfOfX e g = walk_only periodic onward (start (half_half readings_x)) readings_x (refused (11, 10 ∷ 3 ∷ [])) half_half_walks e g
+answer_is ResponsesOfX e g = responses_only e (known readings_x timings_x given_x _ g)
+answer_is PeriodsOfX e g = periods_only timings_x 4 7 14 refl e (known readings_x timings_x given_x _ g)
 answer_is MoreLessOfX e g = walk_only periodic onward (start timings_x) readings_x (granted 31 28) walks_x e (known readings_x timings_x given_x _ g)
 answer_is FinishesOfX e g = finishes_only e (known readings_x timings_x given_x _ g)
+answer_is PeriodsOfY e g = periods_only timings_y 6 6 6 refl e (known readings_y timings_y given_y _ g)
 answer_is MoreLessOfY e g = walk_only periodic onward (start timings_y) readings_y (granted 7 6) walks_y e (known readings_y timings_y given_y _ g)
-answer_is AgeTwelveOfY e g = slot_only e (known readings_y timings_y given_y _ g)
+answer_is RowThreeOfY e g = slot_only e (known readings_y timings_y given_y _ g)
+answer_is MoreLessOfZ e g = too_long_only e g
 answer_is AsleepOverX e g = walk_only asleep (λ p n. refl) tt readings_x (refused (12, 5 ∷ 1 ∷ [])) asleep_walks e g
 answer_is DoubtingOverX e g = walk_only doubting onward (start timings_x) readings_x (refused (13, [])) doubting_walks e (known readings_x timings_x given_x _ g)
 answer_is CrossingAtOne e g = crossed_only 1 false at_one e g

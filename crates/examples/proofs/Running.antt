@@ -14,7 +14,7 @@ use Rattle.walk.specs.Plans.{Accepts}
 use Rattle.walk.specs.Walks.{Outcome, Walks, granted, refused}
 use Rattle.examples.specs.Given.{MoreLessGives, RulesGive, XToY, new_books, periodic, readings_x, readings_y, start}
 use Rattle.examples.specs.Runs.{Faulty, SlotAnswer}
-use Rattle.examples.specs.declared.asked.Asked.TheVariants.{AgeTwelveOfY}
+use Rattle.examples.specs.declared.asked.Asked.TheVariants.{RowThreeOfY}
 use Rattle.examples.specs.declared.ending.Ending.{Ending}
 use Rattle.examples.specs.declared.ending.Ending.TheVariants.{Says}
 use Rattle.examples.proofs.Gives.{age_twelve}
@@ -52,11 +52,11 @@ no_refusal_x ds p t e b f = apart 31 28 t (settled readings_x timings_x given_x 
 pub no_refusal_y : (ds : List Reading) (p : List keeps.Row) (t : Told) → ds ≡ readings_y → Begins ds p → Refuses t ds p → ⊥
 no_refusal_y ds p t e b f = apart 7 6 t (settled readings_y timings_y given_y ds p e b (Refuses t) f (granted 7 6) walks_y)
 
-pub slot_told : (ds : List Reading) (p : List keeps.Row) → ds ≡ readings_y → Begins ds p → (r : Result Ending Refusal) → SlotAnswer (periodic_course p) ds 11 r → RulesGive AgeTwelveOfY r
+pub slot_told : (ds : List Reading) (p : List keeps.Row) → ds ≡ readings_y → Begins ds p → (r : Result Ending Refusal) → SlotAnswer (periodic_course p) ds 11 9 r → RulesGive RowThreeOfY r
 unfolding RulesGive
 slot_told ds p e b (Ok a) f =
-    let t = settled readings_y timings_y given_y ds p e b (λ d q. SlotAnswer (periodic_course q) d 11 (Ok a)) f in
-    subst (λ (x : Ending). RulesGive AgeTwelveOfY (Ok x)) (sym t.0) (timings_y, (given_y, age_twelve))
+    let t = settled readings_y timings_y given_y ds p e b (λ d q. SlotAnswer (periodic_course q) d 11 9 (Ok a)) f in
+    subst (λ (x : Ending). RulesGive RowThreeOfY (Ok x)) (sym t.0) (timings_y, (given_y, age_twelve))
 slot_told ds p e b (Err r) f = absurd (no_fault_y ds p e b f)
 
 pub crossing_told : (xs ys zs : List Reading) (p q : List keeps.Row) (n : ℕ) (rs : List Row) (fs : List ℕ) (said : Bool) → xs ≡ readings_x → Begins xs p → ys ≡ readings_y → Begins ys q

@@ -7,11 +7,11 @@ use Rattle.planner.specs.declared.timing.Timing.{Timing}
 use Rattle.periodic.specs.Rows.{periodic_answer, periodic_course, periodic_next}
 use Rattle.periodic.specs.declared.row.Row.{Row}
 use Rattle.books.specs.Slots.{fault_at}
-use Rattle.walk.specs.Walks.{Walks, granted, refused}
+use Rattle.walk.specs.Walks.{Walks, granted, last_instant, refused}
 use Rattle.walk.proofs.Looking.{doubted, granted_calm, walk_computes, walk_within, walks_computed}
 use Rattle.examples.specs.Given.{MoreLessGives, asleep, doubting, new_books, periodic, readings_x, readings_y, start}
 
-abbrev timing : ℕ → ℕ → Timing
+abbrev pub timing : ℕ → ℕ → Timing
 timing work period = record { work = work; period = period }
 
 -- the timings that More-Less gives to X
@@ -35,19 +35,19 @@ known ds us gives P g = let given = g.1.0 in let same : g.0 ≡ us = cc in subst
 pub onward : (p : List Row) (n : ℕ) → periodic_course (periodic_next p) n ≡ periodic_course p (n + 1)
 onward p n = ahead_onward periodic_next periodic_answer p n
 
-half_half_x : walk_within periodic 32767 (start (half_half readings_x)) (new_books readings_x) ≡ refused (11, 10 ∷ 3 ∷ [])
+half_half_x : walk_within periodic last_instant (start (half_half readings_x)) (new_books readings_x) ≡ refused (11, 10 ∷ 3 ∷ [])
 unfolding walk_computes
 half_half_x = refl
 
-more_less_x : walk_within periodic 32767 (start timings_x) (new_books readings_x) ≡ granted 31 28
+more_less_x : walk_within periodic last_instant (start timings_x) (new_books readings_x) ≡ granted 31 28
 unfolding walk_computes
 more_less_x = refl
 
-more_less_y : walk_within periodic 32767 (start timings_y) (new_books readings_y) ≡ granted 7 6
+more_less_y : walk_within periodic last_instant (start timings_y) (new_books readings_y) ≡ granted 7 6
 unfolding walk_computes
 more_less_y = refl
 
-asleep_x : walk_within asleep 32767 tt (new_books readings_x) ≡ refused (12, 5 ∷ 1 ∷ [])
+asleep_x : walk_within asleep last_instant tt (new_books readings_x) ≡ refused (12, 5 ∷ 1 ∷ [])
 unfolding walk_computes
 asleep_x = refl
 

@@ -1,11 +1,12 @@
 -- What the rules give for each example.
-use Rattle.std.specs.Prelude.{◌≡◌, ℕ, ◌<◌, ◌↔◌, Bool, true, false, IsTrue, List, [], ◌∷◌, map, length, slice_index, slice_index_or, None, Option, Ok, Err, Result}
+use Rattle.std.specs.Prelude.{◌≡◌, ℕ, ◌*◌, ◌<◌, ◌≤◌, ◌↔◌, Bool, true, false, IsTrue, List, [], ◌∷◌, map, length, take, slice_index, slice_index_or, None, Option, Ok, Err, Result}
 use Rattle.readings.specs.Ranges.{blank}
 use Rattle.readings.specs.Refusals.{told}
 use Rattle.readings.specs.declared.reading.Reading.{Reading}
 use Rattle.readings.specs.declared.refusal.Refusal.{Refusal}
 use Rattle.policy.specs.Course.{Course}
-use Rattle.planner.specs.Periods.{half_half, more_less}
+use Rattle.planner.specs.Periods.{MoreLess, half_half, more_less}
+use Rattle.planner.specs.Response.{Response, Settles}
 use Rattle.planner.specs.declared.timing.Timing.{Timing}
 use Rattle.periodic.specs.Rows.{begun, periodic_course, periodic_next, same_rows}
 use Rattle.periodic.specs.declared.row.Row as keeps
@@ -16,9 +17,9 @@ use Rattle.walk.specs.Crossings.{MayCross}
 use Rattle.walk.specs.Finishes.{FirstFinish}
 use Rattle.walk.specs.Walks.{Kind, Walks, granted, refused}
 use Rattle.examples.specs.declared.asked.Asked.{Asked}
-use Rattle.examples.specs.declared.asked.Asked.TheVariants.{HalfHalfOfX, MoreLessOfX, FinishesOfX, MoreLessOfY, AgeTwelveOfY, AsleepOverX, DoubtingOverX, CrossingAtOne, CrossingAtSix, CrossingAtSeven}
+use Rattle.examples.specs.declared.asked.Asked.TheVariants.{HalfHalfPeriodsOfX, HalfHalfOfX, ResponsesOfX, PeriodsOfX, MoreLessOfX, FinishesOfX, PeriodsOfY, MoreLessOfY, RowThreeOfY, MoreLessOfZ, AsleepOverX, DoubtingOverX, CrossingAtOne, CrossingAtSix, CrossingAtSeven}
 use Rattle.examples.specs.declared.ending.Ending.{Ending}
-use Rattle.examples.specs.declared.ending.Ending.TheVariants.{Granted, Finishes, Shown, Says}
+use Rattle.examples.specs.declared.ending.Ending.TheVariants.{Granted, EachRow, Fresh, Says}
 
 abbrev pub reading : ℕ → ℕ → ℕ → Reading
 reading id work validity = record { id = id; work = work; validity = validity }
@@ -30,6 +31,10 @@ readings_x = reading 7 1 5 ∷ reading 8 2 10 ∷ reading 9 2 20 ∷ []
 -- list Y
 abbrev pub readings_y : List Reading
 readings_y = reading 7 2 8 ∷ reading 8 2 10 ∷ reading 9 2 12 ∷ []
+
+-- list Z
+abbrev pub readings_z : List Reading
+readings_z = reading 7 2 6 ∷ reading 8 3 13 ∷ []
 
 -- new books for a list: all of its rows come on
 abbrev pub new_books : List Reading → List Row
@@ -61,23 +66,51 @@ WalkEnds kind p ds (Ok (Granted mark len)) = Walks kind p (new_books ds) (grante
 WalkEnds kind p ds (Err refusal) = Walks kind p (new_books ds) (refused (told refusal))
 WalkEnds kind p ds _ = ⊥
 
+-- these are the periods of three rows
+abbrev pub PeriodEnds : List Timing → Result Ending Refusal → Type 0
+PeriodEnds ts (Ok (EachRow first second third)) = map (λ (t : Timing). t.period) ts ≡ first ∷ second ∷ third ∷ []
+PeriodEnds ts _ = ⊥
+
+-- with these timings of the rows above it, row k + 1 of a list has this response time
+abbrev pub ResponseOf : List Reading → List Timing → ℕ → ℕ → Type 0
+ResponseOf ds ts k d = Response (take k ts) (slice_index_or ds k blank).work (slice_index_or ds k blank).validity d
+
+-- these are the response times of the first three rows
+abbrev pub ResponseEnds : List Reading → List Timing → Result Ending Refusal → Type 0
+ResponseEnds ds ts (Ok (EachRow first second third)) = ResponseOf ds ts 0 first × ResponseOf ds ts 1 second × ResponseOf ds ts 2 third
+ResponseEnds ds ts _ = ⊥
+
+-- More-Less refuses a list at row k + 1: the least number of slots that settles with the timings of the rows above it
+-- is d, and twice that exceeds the validity
+pub record TooLong (ds : List Reading) (k d : ℕ) (refusal : Refusal) : Type 0 where
+  pub refused : more_less ds ≡ Err (told refusal)
+  pub above : List Timing
+  pub planned_above : MoreLess (take k ds) above
+  pub settles : Settles above (slice_index_or ds k blank).work d
+  pub least : (r : ℕ) → Settles above (slice_index_or ds k blank).work r → d ≤ r
+  pub late : (slice_index_or ds k blank).validity < 2 * d
+
+abbrev pub TooLongEnds : List Reading → (k d : ℕ) → Result Ending Refusal → Type 0
+TooLongEnds ds k d (Ok _) = ⊥
+TooLongEnds ds k d (Err refusal) = TooLong ds k d refusal
+
 -- these are the first finishes of the first three rows along a course
 abbrev pub FinishEnds : Course → List Reading → Result Ending Refusal → Type 0
-FinishEnds c ds (Ok (Finishes first second third)) =
+FinishEnds c ds (Ok (EachRow first second third)) =
     FirstFinish c (new_books ds) 0 first × FirstFinish c (new_books ds) 1 second × FirstFinish c (new_books ds) 2 third
 FinishEnds c ds _ = ⊥
 
--- in a slot of a course row k + 1 is judged at an age that equals its validity, the slot has no fault, and it puts
--- a value of this row on show
-pub record JustValid (c : Course) (ds : List Reading) (slot k age : ℕ) (row : Option ℕ) : Type 0 where
+-- in a slot of a course row k + 1 is judged at an age that equals its validity, the slot has no fault, and this is the
+-- row whose value it puts on show, if of any
+pub record JustValid (c : Course) (ds : List Reading) (slot k age : ℕ) (shown : Option ℕ) : Type 0 where
   pub reached : (judged (c slot) k (slice_index_or (books_at c (new_books ds) slot) k blank_row)).age ≡ age
   pub equal : age ≡ (slice_index_or ds k blank).validity
   pub calm : fault_at c (new_books ds) slot ≡ None
-  pub shows : row ≡ shown_row (c slot) (books_at c (new_books ds) slot)
+  pub shows : shown ≡ shown_row (c slot) (books_at c (new_books ds) slot)
 
-abbrev pub SlotEnds : Course → List Reading → (slot k age : ℕ) → Result Ending Refusal → Type 0
-SlotEnds c ds slot k age (Ok (Shown row)) = JustValid c ds slot k age row
-SlotEnds c ds slot k age _ = ⊥
+abbrev pub SlotEnds : Course → List Reading → (slot k : ℕ) → Result Ending Refusal → Type 0
+SlotEnds c ds slot k (Ok (Fresh age shown)) = JustValid c ds slot k age shown
+SlotEnds c ds slot k _ = ⊥
 
 -- whether the books of one list after so many slots of its course may cross to another list with its course, by
 -- the first finish of each row there
@@ -97,11 +130,16 @@ XToY n e =
 
 -- the rules give this answer for an example
 unfoldable pub RulesGive : Asked → Result Ending Refusal → Type 0
+RulesGive HalfHalfPeriodsOfX e = PeriodEnds (half_half readings_x) e
 RulesGive HalfHalfOfX e = WalkEnds periodic (start (half_half readings_x)) readings_x e
+RulesGive ResponsesOfX e = MoreLessGives readings_x (λ ts. ResponseEnds readings_x ts e)
+RulesGive PeriodsOfX e = MoreLessGives readings_x (λ ts. PeriodEnds ts e)
 RulesGive MoreLessOfX e = MoreLessGives readings_x (λ ts. WalkEnds periodic (start ts) readings_x e)
 RulesGive FinishesOfX e = MoreLessGives readings_x (λ ts. FinishEnds (periodic_course (start ts)) readings_x e)
+RulesGive PeriodsOfY e = MoreLessGives readings_y (λ ts. PeriodEnds ts e)
 RulesGive MoreLessOfY e = MoreLessGives readings_y (λ ts. WalkEnds periodic (start ts) readings_y e)
-RulesGive AgeTwelveOfY e = MoreLessGives readings_y (λ ts. SlotEnds (periodic_course (start ts)) readings_y 11 2 12 e)
+RulesGive RowThreeOfY e = MoreLessGives readings_y (λ ts. SlotEnds (periodic_course (start ts)) readings_y 11 2 e)
+RulesGive MoreLessOfZ e = TooLongEnds readings_z 1 7 e
 RulesGive AsleepOverX e = WalkEnds asleep tt readings_x e
 RulesGive DoubtingOverX e = MoreLessGives readings_x (λ ts. WalkEnds doubting (start ts) readings_x e)
 RulesGive CrossingAtOne e = XToY 1 e

@@ -1,5 +1,6 @@
 -- What the parts of a run of an example answer.
-use Rattle.std.specs.Prelude.{◌≡◌, ℕ, ◌+◌, List, None, Ok, Err, Result, ◌≢◌}
+use Rattle.std.specs.Prelude.{◌≡◌, ℕ, ◌+◌, List, min, None, Option, Ok, Err, Result, ◌≢◌}
+use Rattle.std.specs.Option.{option_map_or}
 use Rattle.readings.specs.Refusals.{told}
 use Rattle.readings.specs.declared.reading.Reading.{Reading}
 use Rattle.readings.specs.declared.refusal.Refusal.{Refusal}
@@ -8,16 +9,18 @@ use Rattle.planner.specs.Periods.{more_less}
 use Rattle.periodic.specs.Positions.{rows_of as kept_of}
 use Rattle.periodic.specs.declared.periodic.Periodic.{Periodic}
 use Rattle.books.specs.Held.{rows_of}
+use Rattle.books.specs.Lookups.{row_of}
+use Rattle.books.specs.declared.row.Row.{Row}
 use Rattle.books.specs.Slots.{books_at, fault_at, shown_row}
 use Rattle.books.specs.declared.books.Books.{Books}
 use Rattle.examples.specs.Given.{MoreLessGives, new_books, start}
 use Rattle.examples.specs.declared.ending.Ending.{Ending}
-use Rattle.examples.specs.declared.ending.Ending.TheVariants.{Shown}
+use Rattle.examples.specs.declared.ending.Ending.TheVariants.{Fresh}
 
 -- a periodic policy at the start of the timings that More-Less gives, or its refusal
-abbrev pub Planned : List Reading → Result Periodic Refusal → Type 0
-Planned ds (Ok p) = MoreLessGives ds (λ ts. kept_of p ≡ start ts)
-Planned ds (Err r) = more_less ds ≡ Err (told r)
+abbrev pub Begun : List Reading → Result Periodic Refusal → Type 0
+Begun ds (Ok p) = MoreLessGives ds (λ ts. kept_of p ≡ start ts)
+Begun ds (Err r) = more_less ds ≡ Err (told r)
 
 -- some slot of a course has a fault
 abbrev pub Faulty : Course → List Reading → Type 0
@@ -32,7 +35,13 @@ abbrev pub AfterAnswer : {P : Type 0} → (P → Course) → Course → List Rea
 AfterAnswer course_of c ds n (Ok w) = Stands c ds n w.0 (course_of w.1)
 AfterAnswer course_of c ds n (Err r) = Faulty c ds
 
--- what slot n does
-abbrev pub SlotAnswer : Course → List Reading → ℕ → Result Ending Refusal → Type 0
-SlotAnswer c ds n (Ok e) = (e ≡ Shown (shown_row (c n) (books_at c (new_books ds) n))) × (fault_at c (new_books ds) n ≡ None)
-SlotAnswer c ds n (Err r) = Faulty c ds
+-- the age that a row comes to in a slot, if there is a row
+abbrev pub age_judged : Option Row → ℕ
+age_judged o = option_map_or (λ (r : Row). min (r.age + 1) 65535) o 0
+
+-- what slot n does, and the age of the row with an id there
+abbrev pub SlotAnswer : Course → List Reading → (n id : ℕ) → Result Ending Refusal → Type 0
+SlotAnswer c ds n id (Ok e) =
+    (e ≡ Fresh (age_judged (row_of (books_at c (new_books ds) n) id)) (shown_row (c n) (books_at c (new_books ds) n)))
+    × (fault_at c (new_books ds) n ≡ None)
+SlotAnswer c ds n id (Err r) = Faulty c ds

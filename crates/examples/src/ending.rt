@@ -6,10 +6,11 @@ use std::fmt;
 pub enum Ending {
     // a walk was granted with this mark and length
     Granted { mark: u16, length: u16 },
-    // the first finishes of three rows: no array, since the rules speak of each
-    Finishes(u16, u16, u16),
-    // a slot without a fault put a value of this row on show, if of any
-    Shown(Option<u8>),
+    // a number for each of three rows: a period, a response time or a first finish. No array, since the rules speak of
+    // each
+    EachRow(u16, u16, u16),
+    // a slot without a fault judged a row at this age, and put a value of a row on show, if of any
+    Fresh { age: u16, shown: Option<u8> },
     // a test said yes or no
     Says(bool),
 }
@@ -18,9 +19,12 @@ impl fmt::Display for Ending {
     fn fmt<W: fmt::Write>(&self, f: &mut fmt::Formatter<W>) -> fmt::Result {
         match self {
             Ending::Granted { mark, length } => write!(f, "mark {mark}, length {length}"),
-            Ending::Finishes(first, second, third) => write!(f, "{first}, {second}, {third}"),
-            Ending::Shown(Some(row)) => write!(f, "fresh, row {row} shown"),
-            Ending::Shown(None) => write!(f, "fresh"),
+            Ending::EachRow(first, second, third) => write!(f, "{first}, {second}, {third}"),
+            Ending::Fresh {
+                age,
+                shown: Some(row),
+            } => write!(f, "age {age} fresh, row {row} shown"),
+            Ending::Fresh { age, shown: None } => write!(f, "age {age} fresh"),
             Ending::Says(true) => write!(f, "yes"),
             Ending::Says(false) => write!(f, "no"),
         }
@@ -28,7 +32,7 @@ impl fmt::Display for Ending {
 }
 
 // What an example is answered with, as it is written: an ending, or a refusal's number, for a fault with its slot
-// and row. A newtype, since a `Result` cannot be given a `Display`.
+// and row, for a row that has no response time with the row. A newtype, since a `Result` cannot be given a `Display`.
 #[derive(Clone, Copy)]
 pub struct Answer(pub Result<Ending, Refusal>);
 
@@ -43,6 +47,7 @@ impl fmt::Display for Answer {
                         f,
                         ", slot {slot}, row {row}"
                     ),
+                    Refusal::Response { row } => write!(f, ", row {row}"),
                     _ => Ok(()),
                 }
             }

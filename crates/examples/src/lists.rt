@@ -1,4 +1,4 @@
-ghost use Rattle.examples.specs.Given.{readings_x, readings_y};
+ghost use Rattle.examples.specs.Given.{readings_x, readings_y, readings_z};
 ghost use Rattle.examples.specs.Made.{Makes};
 
 use readings::list::Readings;
@@ -27,4 +27,12 @@ pub fn list_y() -> Result<Readings, Refusal>
         Proposal::new(8, 2, 10),
         Proposal::new(9, 2, 12),
     ])
+}
+
+// List Z: work 2, 3 and validities 6, 13.
+#[tactic(auto, unfolding(readings::specs::Firsts::first_of))]
+pub fn list_z() -> Result<Readings, Refusal>
+    ensures { Makes readings_z result }
+{
+    Readings::new(&[Proposal::new(7, 2, 6), Proposal::new(8, 3, 13)])
 }

@@ -1,9 +1,9 @@
 ghost use Rattle.std.specs.Prelude.{◌≡◌, ℕ, Bool, true, None, Some, Option as Opt, OnOk, IfErr};
 ghost use Rattle.repeat.specs.Marks.{after};
 
-// A stepping thing stands in a state. A step either meets a fault or moves to the next state, and two
-// states can be compared. A policy, in the crate `policy`, is compared and copied too; no trait stands above both, since
-// a yes means another thing of each.
+// A stepping thing stands in a state. A step leads to the next state, or meets a fault and stops, and two states can be
+// compared. A policy, in the crate `policy`, is compared and copied too; no trait stands above both, since a yes means
+// another thing of each.
 pub trait Stepper: Drop + Sized {
     // what a step may meet
     type Fault: Drop;
@@ -19,6 +19,9 @@ pub trait Stepper: Drop + Sized {
     // where a step leads from a state, unless it meets a fault
     ghost next: { State → State };
 
+    // where a step that meets a fault stops
+    ghost stopped: { State → State };
+
     // what a comparison of two states says: always the same
     ghost alike: { State → State → Bool };
 
@@ -26,7 +29,8 @@ pub trait Stepper: Drop + Sized {
     fn step(&mut self) -> Result<(), Self::Fault>
         ensures calm { OnOk result (fault (state self.old) ≡ None) }
         ensures moved { OnOk result (state self.new ≡ next (state self.old)) }
-        ensures met { IfErr result (λ met. fault (state self.old) ≡ Some met) };
+        ensures met { IfErr result (λ met. fault (state self.old) ≡ Some met) }
+        ensures halted { IfErr result (λ _. state self.new ≡ stopped (state self.old)) };
 
     // Whether this state compares with the other: a yes means the same faults ever after. No `PartialEq`: a no means
     // nothing.

@@ -1,27 +1,12 @@
+use crate::lists::{list_of, list_x, proposal};
 use periodic::periodic::Periodic;
 use planner::timings::Timings;
 use policy::agree::same_answers;
 use policy::bank::Bank;
 use policy::policy::Policy;
 use readings::list::Readings;
-use readings::reading::Proposal;
 use readings::refusal::Refusal;
 use std::test::Fail;
-
-// Readings 7, 8 and 9, each with its work length and validity. Lists of their own, since the program `examples` lends
-// none of its code.
-fn list_of(rows: [(u32, u32); 3]) -> Result<Readings, Refusal> {
-    let [first, second, third] = rows;
-    Readings::new(&[proposal(7, first), proposal(8, second), proposal(9, third)])
-}
-
-fn proposal(id: u32, (work, validity): (u32, u32)) -> Proposal {
-    Proposal::new(id, work, validity)
-}
-
-fn list_x() -> Result<Readings, Refusal> {
-    list_of([(1, 5), (2, 10), (2, 20)])
-}
 
 // Whether these are the periods of the rows.
 fn has_periods(timings: &Timings, expected: &[u16]) -> bool {

@@ -3,7 +3,6 @@ use Rattle.std.proofs.Common.{◌≡◌, ℕ, ◌+◌, ◌-◌, true, List, Ok, 
 use Rattle.std.proofs.lemmas.Bool.{and_from, and_parts}
 use Rattle.readings.specs.Refusals.{told}
 use Rattle.readings.specs.declared.refusal.Refusal.{Refusal}
-use Rattle.repeat.specs.Finds.{Finds, Stepping}
 use Rattle.repeat.specs.Finds as search
 use Rattle.repeat.specs.Marks.{after, mark_of}
 use Rattle.repeat.specs.declared.found.NoRepeat.{NoRepeat}
@@ -15,8 +14,8 @@ use Rattle.books.specs.Slots.{books_at, fault_at}
 use Rattle.books.specs.declared.fault.Fault.{Fault}
 use Rattle.books.specs.declared.row.Row.{Row}
 use Rattle.books.proofs.Sames.{rows_from, rows_to}
-use Rattle.walk.specs.Steps.{walk_alike, walk_fault, walk_next}
-use Rattle.walk.specs.Walks.{Kind, Outcome, Walks, end_told, granted, refused}
+use Rattle.walk.specs.Steps.{Searched, walk_alike, walk_fault, walk_next, walk_steps}
+use Rattle.walk.specs.Walks.{Kind, Outcome, Walks, end_told, granted, last_instant, refused}
 use Rattle.walk.specs.Walks as walks
 use Rattle.walk.specs.Walking.{fault_is, walk_at}
 
@@ -34,16 +33,12 @@ pub refusal_told : (r : End) (q : Result Repeat Refusal) (d : Refusal) → Match
 refusal_told (Ok found) q d turned is = cc
 refusal_told (Err end) q d turned is = ap refused (rw is at turned)
 
--- what stepping a policy with its books means
-abbrev pub walk_steps : {Pos : Type 0} → Kind Pos → Stepping (Pos × List Row) Fault
-walk_steps kind = record { fault = walk_fault kind.course; next = walk_next kind.course kind.next; alike = walk_alike kind.alike }
-
 module _ {Pos : Type 0} (kind : Kind Pos) (onward : (p : Pos) (n : ℕ) → kind.course (kind.next p) n ≡ kind.course p (n + 1)) (p : Pos) (rs : List Row) where
   abbrev stands : ℕ → Pos × List Row
   stands n = after (walk_next kind.course kind.next) n (p, rs)
 
   abbrev Ends : End → Type 0
-  Ends = Finds (walk_steps kind) (p, rs) 32767
+  Ends = Searched kind (p, rs)
 
   compares : (t : ℕ) → walk_alike kind.alike (stands t) (stands (mark_of t)) ≡ walk_alike kind.alike (after kind.next t p, books_at (kind.course p) rs t) (after kind.next (mark_of t) p, books_at (kind.course p) rs (mark_of t))
   compares t =
@@ -81,7 +76,7 @@ module _ {Pos : Type 0} (kind : Kind Pos) (onward : (p : Pos) (n : ℕ) → kind
         mark_is = back (λ n. m ≡ mark_of n) e.mark_is;
         repeats = back (walks.Repeats kind p rs) (repeats_to t e.repeats);
         calm = back (walks.Calm kind p rs) (calm_to t e.calm);
-        first = back (walks.Unrepeated kind p rs) (λ u a b w. e.first u a b (repeats_from u w));
+        first = λ u a b w. e.first u a (omega arith) (repeats_from u w);
       }
   walks_from (Err (end.Fault slot met)) e =
       inl (record {
@@ -90,13 +85,13 @@ module _ {Pos : Type 0} (kind : Kind Pos) (onward : (p : Pos) (n : ℕ) → kind
         within = e.within;
         is = sym (faults slot) ∙ e.meets;
         calm = calm_to slot e.calm;
-        unrepeated = λ u a b w. e.unrepeated u a (omega arith) (repeats_from u w);
+        unrepeated = λ u a b w. e.unrepeated u a b (repeats_from u w);
         tells = refl;
       })
   walks_from (Err Nowhere) e =
       inr (record {
-        calm = calm_to 32767 e.calm;
-        unrepeated = λ u a b w. e.unrepeated u a (omega arith) (repeats_from u w);
+        calm = calm_to last_instant e.calm;
+        unrepeated = λ u a b w. e.unrepeated u a b (repeats_from u w);
         tells = refl;
       })
 
@@ -124,14 +119,14 @@ module _ {Pos : Type 0} (kind : Kind Pos) (onward : (p : Pos) (n : ℕ) → kind
         within = w.within;
         meets = faults w.slot ∙ w.is;
         calm = calm_from w.slot w.calm;
-        unrepeated = λ u a b h. w.unrepeated u a (omega arith) (repeats_to u h);
+        unrepeated = λ u a b h. w.unrepeated u a b (repeats_to u h);
       },
       ap refused w.tells,
     ),
   )
   walks_back (refused t) (inr w) = (
     Err Nowhere,
-    (record { calm = calm_from 32767 w.calm; unrepeated = λ u a b h. w.unrepeated u a (omega arith) (repeats_to u h) }, ap refused w.tells),
+    (record { calm = calm_from last_instant w.calm; unrepeated = λ u a b h. w.unrepeated u a b (repeats_to u h) }, ap refused w.tells),
   )
 
   -- no other outcome would do
@@ -145,8 +140,8 @@ pub record Walked {Pos : Type 0} (kind : Kind Pos) (p : Pos) (rs : List Row) (x 
 
 pub walked : {Pos : Type 0} (kind : Kind Pos) (onward : (p : Pos) (n : ℕ) → kind.course (kind.next p) n ≡ kind.course p (n + 1)) (p : Pos) (rs qs : List Row) → rs ≡ qs
     → (f : End)
-    → Finds (walk_steps kind) (p, rs) 32767 f
-    → ((x : End) → Finds (walk_steps kind) (p, rs) 32767 x → x ≡ f)
+    → Searched kind (p, rs) f
+    → ((x : End) → Searched kind (p, rs) x → x ≡ f)
     → (x : Outcome) → x ≡ as_outcome f → Walked kind p qs x
 walked kind onward p rs qs e f ends only x is =
     subst (λ (ps : List Row). Walked kind p ps x) e

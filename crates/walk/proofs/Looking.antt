@@ -2,7 +2,6 @@
 -- always says no.
 use Rattle.std.proofs.Common.{◌≡◌, ℕ, ◌+◌, ◌<◌, false, List, [], None, sym, refl, ◌∙◌, subst, inr, arith}
 use Rattle.std.proofs.lemmas.Bool.{both_ways}
-use Rattle.repeat.specs.Finds.{Finds}
 use Rattle.repeat.specs.Marks.{after, mark_of}
 use Rattle.repeat.specs.Turns.{search_from}
 use Rattle.repeat.proofs.Ever.{ever_shown}
@@ -12,9 +11,9 @@ use Rattle.books.specs.Slots.{books_at, fault_at}
 use Rattle.readings.specs.Firsts.{first_of}
 use Rattle.books.specs.declared.row.Row.{Row}
 use Rattle.books.proofs.Ages.{stay_equal}
-use Rattle.walk.specs.Steps.{walk_fault, walk_next}
-use Rattle.walk.specs.Walks.{Grants, Kind, Outcome, Walks, refused}
-use Rattle.walk.proofs.Ends.{End, as_outcome, walk_steps, walks_from, walks_only}
+use Rattle.walk.specs.Steps.{Searched, walk_fault, walk_next, walk_steps}
+use Rattle.walk.specs.Walks.{Grants, Kind, Outcome, Walks, last_instant, refused}
+use Rattle.walk.proofs.Ends.{End, as_outcome, walks_from, walks_only}
 use Rattle.walk.specs.Walking.{fault_is, walk_at}
 
 module _ {Pos : Type 0} (kind : Kind Pos) where
@@ -30,13 +29,13 @@ walk_computes = tt
 
 module _ {Pos : Type 0} (kind : Kind Pos) (onward : (p : Pos) (n : ℕ) → kind.course (kind.next p) n ≡ kind.course p (n + 1)) (p : Pos) (rs : List Row) where
   abbrev found : End
-  found = look (walk_steps kind) 32767 0 (search_from (p, rs))
+  found = look (walk_steps kind) last_instant 0 (search_from (p, rs))
 
-  finds : Finds (walk_steps kind) (p, rs) 32767 found
-  finds = look_finds (walk_steps kind) (p, rs) 32767
+  finds : Searched kind (p, rs) found
+  finds = look_finds (walk_steps kind) (p, rs) last_instant
 
   -- what it answers is how the walk ends
-  pub walks_computed : (x : Outcome) → walk_within kind 32767 p rs ≡ x → Walks kind p rs x
+  pub walks_computed : (x : Outcome) → walk_within kind last_instant p rs ≡ x → Walks kind p rs x
   unfolding walk_within
   walks_computed x e = subst (Walks kind p rs) e (walks_from kind onward p rs found finds)
 

@@ -22,11 +22,27 @@ pub record Accepts (c : Course) (rs : List Row) (finishes : List ℕ) : Type 0 w
   pub calm : (n : ℕ) → fault_at c rs n ≡ None
   pub finish : (k : ℕ) → k < length rs → FirstFinish c rs k (slice_index finishes k)
 
--- what a walk answered
-abbrev pub outcome : {P : Type 0} → Result (Accepted P) Refusal → Outcome
-outcome (Ok a) = granted a.mark a.length
-outcome (Err e) = refused (told e)
+-- what an accepted plan holds: the list
+abbrev pub list_of : {P : Type 0} → Accepted P → Readings
+list_of a = a.list
 
--- the first finish of each row
+-- the policy, at the position where it was accepted
+abbrev pub policy_of : {P : Type 0} → Accepted P → P
+policy_of a = a.policy
+
+-- the mark of the repeat
+abbrev pub repeat_mark : {P : Type 0} → Accepted P → ℕ
+repeat_mark a = a.mark
+
+-- the slots from the mark to the repeat
+abbrev pub repeat_length : {P : Type 0} → Accepted P → ℕ
+repeat_length a = a.length
+
+-- and the first finish of each row
 abbrev pub finishes_of : {P : Type 0} → Accepted P → List ℕ
 finishes_of a = held a.finishes
+
+-- what a walk answered
+abbrev pub outcome : {P : Type 0} → Result (Accepted P) Refusal → Outcome
+outcome (Ok a) = granted (repeat_mark a) (repeat_length a)
+outcome (Err e) = refused (told e)

@@ -1,6 +1,8 @@
--- How a walk ends: a policy is stepped with new books until books and position repeat.
-use Rattle.std.specs.Prelude.{◌≡◌, ℕ, ◌+◌, ◌<◌, ◌≤◌, Bool, true, ◌⊎◌, List, [], Some, None}
-use Rattle.readings.specs.Refusals.{Told}
+-- How a walk ends: a policy is stepped with new books until the books equal those at the mark and the positions compare
+-- yes.
+use Rattle.std.specs.Prelude.{◌≡◌, ℕ, ◌+◌, ◌<◌, ◌≤◌, Bool, true, ◌⊎◌, List, Some, None}
+use Rattle.readings.specs.Refusals.{Told, told}
+use Rattle.readings.specs.declared.refusal.Refusal.TheVariants as refusal
 use Rattle.policy.specs.Course.{Course}
 use Rattle.repeat.specs.Marks.{after, mark_of}
 use Rattle.repeat.specs.declared.found.NoRepeat.{NoRepeat}
@@ -24,7 +26,11 @@ pub data Outcome : Type 0 where
 -- what a walk tells whose search has no repeat
 abbrev pub end_told : NoRepeat Fault → Told
 end_told (end.Fault slot met) = fault_told met slot
-end_told end.Nowhere = (13, [])
+end_told end.Nowhere = told refusal.NoRepeat
+
+-- the last instant that a walk comes to
+abbrev pub last_instant : ℕ
+last_instant = 32767
 
 -- a walk from position p with books of these rows
 module _ {Pos : Type 0} (kind : Kind Pos) (p : Pos) (rs : List Row) where
@@ -38,35 +44,35 @@ module _ {Pos : Type 0} (kind : Kind Pos) (p : Pos) (rs : List Row) where
       (books_at (kind.course p) rs t ≡ books_at (kind.course p) rs (mark_of t))
       × (kind.alike (after kind.next t p) (after kind.next (mark_of t) p) ≡ true)
 
-  -- no instant from 1 on, before instant n, repeats
+  -- no instant from 1 to n repeats
   abbrev pub Unrepeated : ℕ → Type 0
-  Unrepeated n = (t : ℕ) → 0 < t → t < n → Repeats t → ⊥
+  Unrepeated n = (t : ℕ) → 0 < t → t ≤ n → Repeats t → ⊥
 
   -- granted: the first repeat, by instant 32,767, with no fault before it
   pub record Grants (mark length : ℕ) : Type 0 where
     pub some : 0 < length
-    pub within : mark + length ≤ 32767
+    pub within : mark + length ≤ last_instant
     pub mark_is : mark ≡ mark_of (mark + length)
     pub repeats : Repeats (mark + length)
     pub calm : Calm (mark + length)
-    pub first : Unrepeated (mark + length)
+    pub first : (t : ℕ) → 0 < t → t < mark + length → Repeats t → ⊥
 
   -- refused: the first fault, with no repeat before it
-  pub record Meets (told : Told) : Type 0 where
+  pub record Meets (said : Told) : Type 0 where
     pub slot : ℕ
     pub met : Fault
-    pub within : slot < 32767
+    pub within : slot < last_instant
     pub is : fault_at (kind.course p) rs slot ≡ Some met
     pub calm : Calm slot
-    pub unrepeated : Unrepeated (slot + 1)
-    pub tells : told ≡ fault_told met slot
+    pub unrepeated : Unrepeated slot
+    pub tells : said ≡ fault_told met slot
 
   -- refused: neither a fault nor a repeat by instant 32,767
-  pub record Wanders (told : Told) : Type 0 where
-    pub calm : Calm 32767
-    pub unrepeated : Unrepeated (32767 + 1)
-    pub tells : told ≡ (13, [])
+  pub record Wanders (said : Told) : Type 0 where
+    pub calm : Calm last_instant
+    pub unrepeated : Unrepeated last_instant
+    pub tells : said ≡ told refusal.NoRepeat
 
   abbrev pub Walks : Outcome → Type 0
   Walks (granted mark length) = Grants mark length
-  Walks (refused told) = Meets told ⊎ Wanders told
+  Walks (refused said) = Meets said ⊎ Wanders said

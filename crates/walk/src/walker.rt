@@ -1,6 +1,6 @@
 ghost use Rattle.books.specs.Held.{rows_of};
 ghost use Rattle.books.specs.declared.row.Row.{Row};
-ghost use Rattle.walk.specs.Steps.{walk_alike, walk_fault, walk_next};
+ghost use Rattle.walk.specs.Steps.{walk_alike, walk_fault, walk_next, walk_stopped};
 ghost use Rattle.std.specs.Prelude.{List};
 ghost use Rattle.walk.specs.Walking;
 
@@ -26,6 +26,8 @@ impl<P: Policy> Stepper for Walker<P> {
     ghost fault = { walk_fault P.Policy.course };
 
     ghost next = { walk_next P.Policy.course P.Policy.next };
+
+    ghost stopped = { walk_stopped P.Policy.next };
 
     ghost alike = { walk_alike P.Policy.alike };
 

@@ -24,8 +24,8 @@ fn is_named(mask: u16, k: usize) -> bool
     k < 16 && (mask >> k) % 2 == 1
 }
 
-// Refuses the sample of row k + 1 that an answer asks for, if it does. The answer of a policy is a pair, the form
-// that was asked for. Rows and answer are in no struct: some steps read the rows, and some change them.
+// Refuses the sample of row k + 1 that an answer asks for, if it does. An answer is a pair, as policies give it. Rows and
+// answer are in no struct: some steps read the rows, and some change them.
 fn check_sample(rows: &[Row], answer: (u16, u8), k: usize) -> Result<(), Fault>
     requires { k < 16 }
     ensures { result_err result ≡ sample_fault answer rows.now k }

@@ -3,7 +3,7 @@ ghost use Rattle.books.specs.Lookups.{Idle, row_of};
 ghost use Rattle.readings.specs.Lists.{rows_of as readings_of};
 ghost use Rattle.std.specs.Prelude.{◌≡◌, ◌↔◌, IsTrue};
 ghost use Rattle.walk.specs.Crossings.{Keeps, MayCross, in_time};
-ghost use Rattle.walk.specs.Plans.{Accepts, finishes_of, new_rows};
+ghost use Rattle.walk.specs.Plans.{Accepts, finishes_of, list_of, new_rows, policy_of};
 
 use super::Accepted;
 use books::books::Books;
@@ -31,8 +31,14 @@ impl<P: Policy> Accepted<P> {
     // validity before its first value by the new plan. For a plan that a walk accepted, that is exactly when no
     // job is open and a crossing now keeps every shared reading valid for ever.
     pub fn may_cross(&self, books: &Books) -> bool
-        ensures test { IsTrue result ↔ MayCross (rows_of books.now) (readings_of self.now.list) (finishes_of self.now) }
-        ensures exact { Accepts (P.Policy.course (P.Policy.position self.now.policy)) (new_rows self.now.list) (finishes_of self.now) → (IsTrue result ↔ (Idle (rows_of books.now) × Keeps (rows_of books.now) (readings_of self.now.list) (P.Policy.course (P.Policy.position self.now.policy)))) }
+        ensures test { IsTrue result
+            ↔ MayCross (rows_of books.now) (readings_of (list_of self.now)) (finishes_of self.now) }
+        ensures exact { Accepts (P.Policy.course (P.Policy.position (policy_of self.now))) (new_rows (list_of self.now))
+            (finishes_of self.now)
+            → (IsTrue result
+            ↔ (Idle (rows_of books.now)
+            × Keeps (rows_of books.now) (readings_of (list_of self.now))
+            (P.Policy.course (P.Policy.position (policy_of self.now))))) }
     {
         books.is_idle()
             && self

@@ -9,8 +9,8 @@ use Rattle.walk.specs.Finishes.{FirstFinish, noted}
 use Rattle.books.proofs.RowRuns.{books_length}
 use Rattle.walk.proofs.Finishing.{Noted, instant_at, noted_all, noted_none, noted_on, noted_some, unnoted, kept}
 use Rattle.walk.proofs.Walking.{advanced, rows_at}
-use Rattle.walk.proofs.plan.accept.first_finishes.Goals as goal
-use Rattle.walk.proofs.plan.accept.first_finishes.Goals.{else-loop-slot-test, then-loop-slot-test+then-all}
+use Rattle.walk.proofs.plan.accept.find_finishes.Goals as goal
+use Rattle.walk.proofs.plan.accept.find_finishes.Goals.{else-loop-slot-test, then-loop-slot-test+then-all}
 
 pub loop-slot-init : goal.loop-slot-init
 loop-slot-init g c =

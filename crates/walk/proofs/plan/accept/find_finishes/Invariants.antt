@@ -5,7 +5,7 @@ use Rattle.books.specs.declared.row.Row.{Row}
 use Rattle.rows.specs.Held.{rows_of as held}
 use Rattle.walk.specs.Steps.{walk_next}
 use Rattle.walk.proofs.Finishing.{Noted}
-use Rattle.walk.proofs.plan.accept.first_finishes.Given as goal
+use Rattle.walk.proofs.plan.accept.find_finishes.Given as goal
 
 abbrev pub invariant-loop-slot : goal.invariant-loop-slot
 invariant-loop-slot g l =

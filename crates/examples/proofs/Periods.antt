@@ -1,0 +1,79 @@
+-- What the planners give in the examples, computed.
+use Rattle.std.proofs.Common.{◌≡◌, ℕ, ◌+◌, ◌<◌, ◌≤◌, false, List, [], ◌∷◌, Err, nat_eq, refl, sym, ap, ◌∙◌, subst, inl, inr, arith}
+use Rattle.std.proofs.lemmas.Bool.{both_ways, cases_lt, eq-eqb}
+use Rattle.readings.specs.Refusals.{told}
+use Rattle.readings.specs.declared.reading.Reading.{Reading}
+use Rattle.readings.specs.declared.refusal.Refusal.{Refusal}
+use Rattle.readings.specs.declared.refusal.Refusal.TheVariants.{Response as NoResponse}
+use Rattle.planner.specs.Periods.{MoreLess, more_less}
+use Rattle.planner.specs.Response.{Response, Settles, demand}
+use Rattle.planner.specs.declared.timing.Timing.{Timing}
+use Rattle.examples.specs.Given.{ResponseOf, RulesGive, TooLong, reading, readings_x, readings_z}
+use Rattle.examples.specs.declared.asked.Asked.TheVariants.{MoreLessOfZ}
+use Rattle.examples.proofs.Gives.{each_below}
+use Rattle.examples.proofs.Told.{refusal_of, refusal_told}
+use Rattle.examples.proofs.Walked.{timing, timings_x}
+
+-- where no number below d settles, whatever settles is at least d
+least_from : (above : List Timing) (work d : ℕ) → ((k : ℕ) → k < d → nat_eq k (work + demand above k) ≡ false) → (r : ℕ) → Settles above work r → d ≤ r
+least_from above work d none r e =
+    elim (cases_lt r d) [
+      | inl less ↦ absurd (both_ways _ (none r less) (eq-eqb r _ e))
+      | inr more ↦ more
+    ]
+
+pub response_first : ResponseOf readings_x timings_x 0 1
+response_first = record { settles = refl; first = least_from [] 1 1 (each_below _ 1 (tt, refl)); half = omega arith }
+
+pub response_second : ResponseOf readings_x timings_x 1 3
+response_second = record { settles = refl; first = least_from (timing 1 4 ∷ []) 2 3 (each_below _ 3 (((tt, refl), refl), refl)); half = omega arith }
+
+pub response_third : ResponseOf readings_x timings_x 2 6
+response_third =
+    record {
+      settles = refl;
+      first = least_from (timing 1 4 ∷ timing 2 7 ∷ []) 2 6 (each_below _ 6 ((((((tt, refl), refl), refl), refl), refl), refl));
+      half = omega arith;
+    }
+
+-- a row has one response time
+pub response_only : (above : List Timing) (work validity d e : ℕ) → Response above work validity d → Response above work validity e → d ≡ e
+response_only above work validity d e v w = let a = v.first e w.settles in let b = w.first d v.settles in omega arith
+
+-- the first row of Z has the response time 2, which leaves a period of 4
+abbrev above_z : List Timing
+above_z = timing 2 4 ∷ []
+
+first_z : MoreLess (reading 7 2 6 ∷ []) above_z
+first_z =
+    record {
+      count = refl;
+      works = each_below _ 1 (tt, refl);
+      within = each_below _ 1 (tt, omega arith);
+      responses = each_below _ 1 (tt, record { settles = refl; first = least_from [] 2 2 (each_below _ 2 ((tt, refl), refl)); half = omega arith });
+    }
+
+-- and the second one takes 7 of its 13 slots
+pub too_long : TooLong readings_z 1 7 (NoResponse 2)
+too_long =
+    record {
+      refused = refl;
+      above = above_z;
+      planned_above = first_z;
+      settles = refl;
+      least = least_from above_z 3 7 (each_below _ 7 (((((((tt, refl), refl), refl), refl), refl), refl), refl));
+      late = omega arith;
+    }
+
+-- no other refusal tells what the one of Z tells
+pub refusal_z : (r : Refusal) → more_less readings_z ≡ Err (told r) → r ≡ NoResponse 2
+refusal_z r refused =
+    let same : Err (told r) ≡ more_less readings_z = sym refused in
+    let tells : told r ≡ told (NoResponse 2) = cc in
+    sym (refusal_told r) ∙ ap refusal_of tells
+
+-- so that More-Less, which refuses Z, does it with that one
+pub z_refused : (ds : List Reading) (r : Refusal) → ds ≡ readings_z → more_less ds ≡ Err (told r) → RulesGive MoreLessOfZ (Err r)
+unfolding RulesGive
+z_refused ds r e refused =
+    subst (TooLong readings_z 1 7) (sym (refusal_z r (ap more_less (sym e) ∙ refused))) too_long
