@@ -1,10 +1,11 @@
 -- What the planners give in the examples, computed.
-use Rattle.std.proofs.Common.{◌≡◌, ℕ, ◌+◌, ◌<◌, ◌≤◌, false, List, [], ◌∷◌, Err, nat_eq, refl, sym, ap, ◌∙◌, subst, inl, inr, arith}
+use Rattle.std.proofs.Common.{◌≡◌, ℕ, ◌+◌, ◌<◌, ◌≤◌, false, List, [], ◌∷◌, Err, nat_eq, refl, sym, ap, ◌∙◌, subst, inl, inr, arith, lit<}
 use Rattle.std.proofs.lemmas.Bool.{both_ways, cases_lt, eq-eqb}
 use Rattle.readings.specs.Refusals.{told}
 use Rattle.readings.specs.declared.reading.Reading.{Reading}
 use Rattle.readings.specs.declared.refusal.Refusal.{Refusal}
 use Rattle.readings.specs.declared.refusal.Refusal.TheVariants.{Response as NoResponse}
+use Rattle.planner.proofs.Planned.{planned}
 use Rattle.planner.specs.Periods.{MoreLess, more_less}
 use Rattle.planner.specs.Response.{Response, Settles, demand}
 use Rattle.planner.specs.declared.timing.Timing.{Timing}
@@ -22,19 +23,18 @@ least_from above work d none r e =
       | inr more ↦ more
     ]
 
+-- the law of More-Less gives the response times of X
+law_x : MoreLess readings_x timings_x
+law_x = planned readings_x
+
 pub response_first : ResponseOf readings_x timings_x 0 1
-response_first = record { settles = refl; first = least_from [] 1 1 (each_below _ 1 (tt, refl)); half = omega arith }
+response_first = law_x.responses 0 (lit< tt)
 
 pub response_second : ResponseOf readings_x timings_x 1 3
-response_second = record { settles = refl; first = least_from (timing 1 4 ∷ []) 2 3 (each_below _ 3 (((tt, refl), refl), refl)); half = omega arith }
+response_second = law_x.responses 1 (lit< tt)
 
 pub response_third : ResponseOf readings_x timings_x 2 6
-response_third =
-    record {
-      settles = refl;
-      first = least_from (timing 1 4 ∷ timing 2 7 ∷ []) 2 6 (each_below _ 6 ((((((tt, refl), refl), refl), refl), refl), refl));
-      half = omega arith;
-    }
+response_third = law_x.responses 2 (lit< tt)
 
 -- a row has one response time
 pub response_only : (above : List Timing) (work validity d e : ℕ) → Response above work validity d → Response above work validity e → d ≡ e
@@ -44,22 +44,13 @@ response_only above work validity d e v w = let a = v.first e w.settles in let b
 abbrev above_z : List Timing
 above_z = timing 2 4 ∷ []
 
-first_z : MoreLess (reading 7 2 6 ∷ []) above_z
-first_z =
-    record {
-      count = refl;
-      works = each_below _ 1 (tt, refl);
-      within = each_below _ 1 (tt, omega arith);
-      responses = each_below _ 1 (tt, record { settles = refl; first = least_from [] 2 2 (each_below _ 2 ((tt, refl), refl)); half = omega arith });
-    }
-
 -- and the second one takes 7 of its 13 slots
 pub too_long : TooLong readings_z 1 7 (NoResponse 2)
 too_long =
     record {
       refused = refl;
       above = above_z;
-      planned_above = first_z;
+      planned_above = planned (reading 7 2 6 ∷ []);
       settles = refl;
       least = least_from above_z 3 7 (each_below _ 7 (((((((tt, refl), refl), refl), refl), refl), refl), refl));
       late = omega arith;

@@ -1,5 +1,5 @@
 mod Demand
 mod Least
-mod Planned
+pub mod Planned
 mod Positive
 mod Settling
