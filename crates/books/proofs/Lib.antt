@@ -1,5 +1,6 @@
 pub mod Ages
 pub mod Began
+pub mod Crossing
 pub mod Counted
 pub mod Each
 pub mod Held

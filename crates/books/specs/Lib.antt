@@ -5,4 +5,5 @@ pub mod Parts
 pub mod Fresh
 pub mod Held
 pub mod Lookups
+pub mod Crossings
 pub mod Ages

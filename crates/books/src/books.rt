@@ -5,6 +5,7 @@ ghost use Rattle.rows.specs.Held.{rows_of};
 use crate::row::Row;
 use rows::rows::Rows;
 
+mod crossing;
 mod lookup;
 mod slot;
 

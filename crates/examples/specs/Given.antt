@@ -36,6 +36,14 @@ readings_y = reading 7 2 8 ∷ reading 8 2 10 ∷ reading 9 2 12 ∷ []
 abbrev pub readings_z : List Reading
 readings_z = reading 7 2 6 ∷ reading 8 3 13 ∷ []
 
+-- list W, which shares two ids with X
+abbrev pub readings_w : List Reading
+readings_w = reading 7 1 6 ∷ reading 9 2 9 ∷ reading 12 2 20 ∷ []
+
+-- list U, which shares one
+abbrev pub readings_u : List Reading
+readings_u = reading 9 2 4 ∷ []
+
 -- new books for a list: all of its rows come on
 abbrev pub new_books : List Reading → List Row
 new_books ds = map come_on ds

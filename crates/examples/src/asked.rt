@@ -156,7 +156,8 @@ fn half_half(list: &Readings) -> Periodic
     Periodic::new(&Timings::half_half(list))
 }
 
-fn more_less(list: &Readings) -> Result<Periodic, Refusal>
+// The policy of a list by More-Less, at its start.
+pub fn more_less(list: &Readings) -> Result<Periodic, Refusal>
     ensures { Begun (readings_of list.now) result }
 {
     Ok(Periodic::new(&Timings::more_less(list)?))

@@ -1,3 +1,4 @@
+use crate::refused::Refused;
 use readings::refusal::Refusal;
 use std::fmt;
 
@@ -31,8 +32,8 @@ impl fmt::Display for Ending {
     }
 }
 
-// What an example is answered with, as it is written: an ending, or a refusal's number, for a fault with its slot
-// and row, for a row that has no response time with the row. A newtype, since a `Result` cannot be given a `Display`.
+// What an example is answered with, as it is written: an ending, or a refusal. A newtype, since a `Result` cannot be given
+// a `Display`.
 #[derive(Clone, Copy)]
 pub struct Answer(pub Result<Ending, Refusal>);
 
@@ -40,17 +41,7 @@ impl fmt::Display for Answer {
     fn fmt<W: fmt::Write>(&self, f: &mut fmt::Formatter<W>) -> fmt::Result {
         match self.0 {
             Ok(ending) => write!(f, "{ending}"),
-            Err(refusal) => {
-                write!(f, "{refusal}")?;
-                match refusal {
-                    Refusal::JobRule { slot, row } | Refusal::Stale { slot, row } => write!(
-                        f,
-                        ", slot {slot}, row {row}"
-                    ),
-                    Refusal::Response { row } => write!(f, ", row {row}"),
-                    _ => Ok(()),
-                }
-            }
+            Err(refusal) => write!(f, "{}", Refused(refusal)),
         }
     }
 }

@@ -1,4 +1,4 @@
-ghost use Rattle.examples.specs.Given.{readings_x, readings_y, readings_z};
+ghost use Rattle.examples.specs.Given.{readings_u, readings_w, readings_x, readings_y, readings_z};
 ghost use Rattle.examples.specs.Made.{Makes};
 
 use readings::list::Readings;
@@ -35,4 +35,24 @@ pub fn list_z() -> Result<Readings, Refusal>
     ensures { Makes readings_z result }
 {
     Readings::new(&[Proposal::new(7, 2, 6), Proposal::new(8, 3, 13)])
+}
+
+// List W: ids 7 and 9 of X with other validities, and 12 in place of 8.
+#[tactic(auto, unfolding(readings::specs::Firsts::first_of))]
+pub fn list_w() -> Result<Readings, Refusal>
+    ensures { Makes readings_w result }
+{
+    Readings::new(&[
+        Proposal::new(7, 1, 6),
+        Proposal::new(9, 2, 9),
+        Proposal::new(12, 2, 20),
+    ])
+}
+
+// List U: id 9 of X alone. Its validity is below every age that X has it at while no job is open.
+#[tactic(auto, unfolding(readings::specs::Firsts::first_of))]
+pub fn list_u() -> Result<Readings, Refusal>
+    ensures { Makes readings_u result }
+{
+    Readings::new(&[Proposal::new(9, 2, 4)])
 }

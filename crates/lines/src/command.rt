@@ -1,7 +1,8 @@
 // The commands of a script.
 ghost use Rattle.std.specs.Prelude.{◌≡◌};
+ghost use Rattle.lines.specs.declared.command.Command.TheVariants.{Reading, Show, Start, Switch, Tick};
 ghost use Rattle.lines.specs.Left.{behind_first, first_number, left};
-ghost use Rattle.lines.specs.Words.{alone, command_of, three};
+ghost use Rattle.lines.specs.Words.{alone, command_of, one, two, three};
 
 use crate::pieces::Pieces;
 use crate::token::Token;
@@ -17,6 +18,16 @@ pub enum Command {
     Half,
     // the plan ends, to be refreshed by More-Less
     More,
+    // the board is to run the plan of this number, whether or not there is one
+    Start { plan: u16 },
+    // so many slots of the board pass
+    Tick { ticks: u16 },
+    // another plan is to cross in, at most so many ticks from now
+    Switch { plan: u16, latency: u16 },
+    // how old is the value of this id?
+    Show { id: u16 },
+    // the board is to rest
+    Stop,
 }
 
 // the most bytes that a line may have
@@ -37,6 +48,11 @@ impl Command {
             Token::Word(b"reading") => reading(pieces),
             Token::Word(b"half") => alone(pieces, Command::Half),
             Token::Word(b"more") => alone(pieces, Command::More),
+            Token::Word(b"start") => start(pieces),
+            Token::Word(b"tick") => tick(pieces),
+            Token::Word(b"switch") => switch(pieces),
+            Token::Word(b"show") => show(pieces),
+            Token::Word(b"stop") => alone(pieces, Command::Stop),
             _ => None,
         }
     }
@@ -44,12 +60,45 @@ impl Command {
 
 // A reading: its id, work length and validity, and nothing behind them.
 fn reading(mut pieces: Pieces) -> Option<Command>
-    ensures { result ≡ three (left pieces.entry) }
+    ensures { result ≡ three Reading (left pieces.entry) }
 {
     let id = next_number(&mut pieces)?;
     let work = next_number(&mut pieces)?;
     let validity = next_number(&mut pieces)?;
     alone(pieces, Command::Reading { id, work, validity })
+}
+
+// A start of the board: the number of a plan, and nothing behind it.
+fn start(mut pieces: Pieces) -> Option<Command>
+    ensures { result ≡ one Start (left pieces.entry) }
+{
+    let plan = next_number(&mut pieces)?;
+    alone(pieces, Command::Start { plan })
+}
+
+// Slots that pass: how many ticks, and nothing behind them.
+fn tick(mut pieces: Pieces) -> Option<Command>
+    ensures { result ≡ one Tick (left pieces.entry) }
+{
+    let ticks = next_number(&mut pieces)?;
+    alone(pieces, Command::Tick { ticks })
+}
+
+// A switch of the board: the number of a plan, the latency, and nothing behind them.
+fn switch(mut pieces: Pieces) -> Option<Command>
+    ensures { result ≡ two Switch (left pieces.entry) }
+{
+    let plan = next_number(&mut pieces)?;
+    let latency = next_number(&mut pieces)?;
+    alone(pieces, Command::Switch { plan, latency })
+}
+
+// A question for an age: the id of a reading, and nothing behind it.
+fn show(mut pieces: Pieces) -> Option<Command>
+    ensures { result ≡ one Show (left pieces.entry) }
+{
+    let id = next_number(&mut pieces)?;
+    alone(pieces, Command::Show { id })
 }
 
 // A command behind which no piece is left.

@@ -42,6 +42,29 @@ fn not_commands(rt: HostRuntime) {
 }
 
 #[test]
+fn calls(rt: HostRuntime) {
+    let switch = Command::Switch {
+        plan: 2,
+        latency: 30,
+    };
+    assert_eq!(rt; Command::of(b"start 1"), Some(Command::Start { plan: 1 }));
+    assert_eq!(rt; Command::of(b"tick 40"), Some(Command::Tick { ticks: 40 }));
+    assert_eq!(rt; Command::of(b"switch 2 30"), Some(switch));
+    assert_eq!(rt; Command::of(b"show 7"), Some(Command::Show { id: 7 }));
+    assert_eq!(rt; Command::of(b"stop"), Some(Command::Stop));
+}
+
+#[test]
+fn not_calls(rt: HostRuntime) {
+    assert_eq!(rt; Command::of(b"start"), None, "no number");
+    assert_eq!(rt; Command::of(b"start 1 2"), None, "a number too many");
+    assert_eq!(rt; Command::of(b"tick x"), None, "no digit");
+    assert_eq!(rt; Command::of(b"switch 1"), None, "one number of two");
+    assert_eq!(rt; Command::of(b"stop 1"), None, "a number behind");
+    assert_eq!(rt; Command::of(b"show 65536"), None, "past 16 bits");
+}
+
+#[test]
 fn lines_of_a_text(rt: HostRuntime) -> Result<(), Fail> {
     let mut lines = Pieces::new(b"half\n", b'\n');
     let line = lines.next().ok_or("no line")?;

@@ -1,4 +1,4 @@
-// Rehearses a script from standard input: reads it, and writes the answer to each of its lines.
+// Rehearses a script from standard input: reads it, and writes the answers to its lines.
 #![tactic(auto)]
 
 use script::rehearsal::{LONGEST_SCRIPT, Rehearsal};
@@ -14,7 +14,7 @@ fn run(rt: &HostRuntime) -> anyhow::Result<()> {
     let mut rehearsal = Rehearsal::new(rt.alloc(), text.as_slice());
     let mut out = BufWriter::new(rt.alloc(), rt.stdout())?;
     while let Some(reply) = rehearsal.reply()? {
-        writeln!(out, "{reply}")?;
+        write!(out, "{reply}")?;
     }
     out.flush()?;
     Ok(())

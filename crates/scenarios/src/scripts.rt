@@ -8,7 +8,7 @@ fn rehearsed(heap: Global, text: &[u8]) -> Result<String, AllocError> {
     let mut written = String::new(heap);
     let mut rehearsal = Rehearsal::new(heap, text);
     while let Some(reply) = rehearsal.reply()? {
-        writeln!(written, "{reply}")?;
+        write!(written, "{reply}")?;
     }
     Ok(written)
 }
@@ -110,7 +110,7 @@ fn lines_that_are_malformed(rt: HostRuntime) -> Result<(), Fail> {
             "ok\nno 24\nno 24\n",
         )?
     );
-    assert!(rt; writes(&rt, b"start 1\ntick 6\nstop\n", "no 24\nno 24\nno 24\n")?);
+    assert!(rt; writes(&rt, b"start\ntick x\nstop 1\n", "no 24\nno 24\nno 24\n")?);
     Ok(())
 }
 
@@ -122,5 +122,62 @@ fn a_script_of_the_greatest_length(rt: HostRuntime) -> Result<(), Fail> {
     assert_eq!(rt; written.len(), 16_384 * 6);
     let longer = vec![in heap; b'\n'; 16_385]?;
     assert!(rt; writes(&rt, longer.as_slice(), "no 24\n")?);
+    Ok(())
+}
+
+#[test]
+fn a_day_of_the_board(rt: HostRuntime) -> Result<(), Fail> {
+    assert!(rt;
+        writes(
+            &rt,
+            b"plan\nreading 7 1 5\nreading 8 2 10\nreading 9 2 20\nmore\nstart 1\nshow 9\ntick 6\nshow 9\nstop\nstop\n",
+            "ok\nok\nok\nok\nok\nstart 31 28\nshow none\n7 1 1 0\n0 2 0 0\n0 2 2 0\n0 3 0 0\n1 1 1 0\n0 3 3 0\nshow 6 20\nok\nno 14\n",
+        )?
+    );
+    Ok(())
+}
+
+#[test]
+fn calls_that_are_refused(rt: HostRuntime) -> Result<(), Fail> {
+    assert!(rt;
+        writes(
+            &rt,
+            b"tick 3\ntick 0\nshow 1\nstop\nplan\nstart 1\n",
+            "no 14\nno 14\nno 14\nno 24\nno 25\n",
+        )?,
+        "a board that rests, no ticks, and a plan after a call"
+    );
+    assert!(rt;
+        writes(
+            &rt,
+            b"start 1\nswitch 3 5\nplan\nreading 7 1 2\nstart 1\nhalf\nstart 2\nstart 1\nstart 1\nshow 8\n",
+            "no 25\nno 25\nok\nok\nno 24\nok\nno 25\nstart 1 1\nno 15\nno 19\n",
+        )?,
+        "plans that are not there, and a call inside a plan"
+    );
+    Ok(())
+}
+
+#[test]
+fn no_ticks_end_the_plans(rt: HostRuntime) -> Result<(), Fail> {
+    assert!(rt; writes(&rt, b"tick 0\nplan\n", "no 24\n")?);
+    Ok(())
+}
+
+#[test]
+fn switches(rt: HostRuntime) -> Result<(), Fail> {
+    let plans =
+        "plan\nreading 7 1 5\nreading 8 2 10\nreading 9 2 20\nmore\nplan\nreading 7 2 8\nreading 8 2 10\nreading 9 2 12\nmore\n";
+    let mut text = String::from_str(rt.alloc(), plans)?;
+    text.push_str(
+        "switch 2 9\nstart 1\ntick 1\nswitch 2 4096\nswitch 2 4\nswitch 2 5\nswitch 2 5\ntick 5\nshow 7\n",
+    )?;
+    assert!(rt;
+        writes(
+            &rt,
+            text.as_bytes(),
+            "ok\nok\nok\nok\nok\nok\nok\nok\nok\nok\nno 14\nstart 31 28\n7 1 1 0\nno 17\nno 18\nswitch 5\nno 16\n0 2 0 0\n0 2 2 0\n0 3 0 0\n1 1 1 0\n0 3 3 1\nshow 2 8\n",
+        )?
+    );
     Ok(())
 }

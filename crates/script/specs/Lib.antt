@@ -1,6 +1,9 @@
-pub mod Coming
 pub mod Plans
+pub mod Drafting
+pub mod Boards
+pub mod Places
+pub mod Deeds
 pub mod Replies
 pub mod States
 pub mod Texts
-pub mod Turns
+pub mod Stands

@@ -1,9 +1,11 @@
 ghost use Rattle.readings.specs.Refusals.{told};
+ghost use Rattle.script.specs.Boards.{banked, bank_position};
 ghost use Rattle.script.specs.Plans.{plan_of, planned};
 ghost use Rattle.std.specs.Prelude.{◌≡◌, Ok, Err};
 
 use periodic::periodic::Periodic;
 use planner::timings::Timings;
+use policy::bank::Bank;
 use readings::list::Readings;
 use readings::reading::Proposal;
 use readings::refusal::Refusal;
@@ -39,5 +41,16 @@ impl Plan {
             list,
             policy: Periodic::new(&timings),
         })
+    }
+
+    // The policy in its bank, as a board of a script holds it: the first, and used. A copy stands in for the second.
+    pub fn bank(&self) -> Bank<Periodic, Periodic>
+        ensures { bank_position result ≡ banked (plan_of self.now).policy }
+    {
+        Bank {
+            first: self.policy,
+            second: self.policy,
+            used: 1,
+        }
     }
 }

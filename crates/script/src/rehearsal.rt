@@ -1,7 +1,10 @@
-ghost use Rattle.script.specs.Coming.{Stuck, coming};
-ghost use Rattle.script.specs.Replies.{refusal_of};
-ghost use Rattle.script.specs.Texts.{answers, answers_last};
-ghost use Rattle.std.specs.Prelude.{◌≡◌, [], ◌∷◌, Some, None, Ok, Err};
+ghost use Rattle.script.specs.Stands.{Rehearsed, Stuck, coming, most_left};
+ghost use Rattle.script.specs.States.{State, at_first};
+ghost use Rattle.script.specs.Texts.{Comes, Rehearses, Replies, lines_of};
+ghost use Rattle.std.specs.Prelude.{◌≡◌, ◌≢◌, ◌<◌, IfOk, IsSome, List, [], ◌∷◌, Some, None, Ok, Err};
+ghost use Rattle.script.specs.declared.reply.Reply.{Reply};
+ghost use Rattle.script.specs.declared.reply.Reply.TheVariants.{Refused};
+ghost use Rattle.readings.specs.declared.refusal.Refusal.TheVariants.{Line};
 
 use crate::reply::Reply;
 use crate::script::Script;
@@ -15,7 +18,7 @@ pub const LONGEST_SCRIPT: usize = 16_384;
 // what a longer script is taken for: a line cut short, so that its one refusal needs no case and no flag of its own
 const TOO_LONG: &[u8] = b"?";
 
-// A script that is answered line by line.
+// A script that is answered line by line, and tick by tick.
 #[derive(Drop)]
 pub struct Rehearsal<'a> {
     script: Script,
@@ -26,7 +29,9 @@ pub struct Rehearsal<'a> {
 impl<'a> Rehearsal<'a> {
     // The rehearsal of a script, before its first line.
     pub fn new(heap: Global, text: &'a [u8]) -> Rehearsal<'a>
-        ensures { coming result ≡ answers text.now }
+        ensures lines { coming result ≡ lines_of text.now }
+        ensures state { Rehearsed at_first result }
+        ensures whole { (rs : List Reply) → Comes at_first (coming result) rs → Rehearses text.now rs }
     {
         let text = if text.len() > LONGEST_SCRIPT {
             TOO_LONG
@@ -39,17 +44,22 @@ impl<'a> Rehearsal<'a> {
         }
     }
 
-    // The answer to the next line, or none after the last. Memory fails only where the line adds a
-    // reading and there is no room for it, and then nothing has changed.
+    // The next reply: to a tick that is left of the last line, or to the next line; none after the last. Memory fails only
+    // where the line adds a reading and there is no room for it, and then nothing has changed.
     pub fn reply(&mut self) -> Result<Option<Reply>, AllocError>
-        ensures { elim result [
+        ensures ends { IfOk result (λ o. IsSome o → most_left self.new < most_left self.old) }
+        ensures replies { (s : State) → Rehearsed s self.old → elim result [
           | Ok o ↦ elim o [
-            | None ↦ (coming self.old ≡ []) × (coming self.new ≡ [])
-            | Some reply ↦ coming self.old ≡ refusal_of reply ∷ coming self.new
+            | None ↦ Comes s (coming self.old) [] × Comes s (coming self.new) [] × Rehearsed s self.new
+            | Some reply ↦ (u : State) × Rehearsed u self.new × Replies s.left s (coming self.old) reply u (coming self.new)
+                × ((rs : List Reply) → Comes u (coming self.new) rs → Comes s (coming self.old) (reply ∷ rs))
           ]
-          | Err e ↦ (coming self.new ≡ coming self.old) × Stuck self.old
+          | Err e ↦ Stuck self.old × (coming self.new ≡ coming self.old) × Rehearsed s self.new
         ] }
     {
+        if let Some(reply) = self.script.tick() {
+            return Ok(Some(reply));
+        }
         let mut lines = self.lines;
         let Some(line) = lines.next() else {
             return Ok(None);
@@ -67,9 +77,9 @@ impl<'a> Rehearsal<'a> {
 // The answer to what stands behind the last line: none where nothing does.
 fn cut_short(rest: &[u8]) -> Option<Reply>
     ensures { elim result [
-      | None ↦ answers_last rest.now ≡ []
-      | Some reply ↦ answers_last rest.now ≡ refusal_of reply ∷ []
+      | None ↦ rest.now ≡ []
+      | Some reply ↦ (rest.now ≢ []) × (reply ≡ Refused Line)
     ] }
 {
-    (!rest.is_empty()).then_some(Reply(Err(Refusal::Line)))
+    (!rest.is_empty()).then_some(Reply::Refused(Refusal::Line))
 }

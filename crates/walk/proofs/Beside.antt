@@ -10,7 +10,7 @@ use Rattle.books.specs.declared.row.Job.{Job}
 use Rattle.books.specs.declared.row.Row.{Row}
 use Rattle.books.proofs.Keeps.{work_keeps}
 use Rattle.books.proofs.RowRuns.{row_at}
-use Rattle.walk.specs.Crossings.{carry}
+use Rattle.books.specs.Crossings.{carry}
 
 -- a row with another age and value
 abbrev pub with_age : Row → Bool → ℕ → Row

@@ -13,7 +13,8 @@ use Rattle.books.proofs.Began.{began_row}
 use Rattle.books.proofs.Each.{get_or_each, length_each}
 use Rattle.books.proofs.Keeps.{judged_fresh, work_keeps}
 use Rattle.books.proofs.RowRuns.{books_length, books_row, row_at}
-use Rattle.walk.specs.Crossings.{Keeps, MayCross, carry, crossed, in_time}
+use Rattle.books.specs.Crossings.{carry, crossed}
+use Rattle.walk.specs.Crossings.{Keeps, MayCross, in_time}
 use Rattle.walk.specs.Plans.{Accepts}
 use Rattle.walk.proofs.Beside.{needs, reading_at, stays}
 
@@ -21,7 +22,7 @@ module _ (old : List Row) (new : List Reading) (c : Course) (k : ℕ) (h : k < l
   abbrev reading : Reading
   reading = get_or new k blank
 
-  abbrev over : Row
+  abbrev pub over : Row
   over = carry reading (row_of old reading.id)
 
   crossed_row : get_or (crossed old new) k blank_row ≡ over
@@ -31,7 +32,7 @@ module _ (old : List Row) (new : List Reading) (c : Course) (k : ℕ) (h : k < l
   crossed_length n = books_length c (crossed old new) n ∙ length-map new (λ (d : Reading). carry d (row_of old d.id))
 
   -- the row after a crossing and n slots
-  crossed_at : (n : ℕ) → get_or (books_at c (crossed old new) n) k blank_row ≡ row_at c k over n
+  pub crossed_at : (n : ℕ) → get_or (books_at c (crossed old new) n) k blank_row ≡ row_at c k over n
   crossed_at n =
       let l = length-map new (λ (d : Reading). carry d (row_of old d.id)) in
       books_row c (crossed old new) k (omega arith) n ∙ ap (λ (r : Row). row_at c k r n) crossed_row
@@ -45,13 +46,13 @@ module _ (old : List Row) (new : List Reading) (c : Course) (k : ℕ) (h : k < l
   carried_reading d None = refl
   carried_reading d (Some r) = refl
 
-  over_reading : (n : ℕ) → (row_at c k over n).reading ≡ reading
+  pub over_reading : (n : ℕ) → (row_at c k over n).reading ≡ reading
   over_reading n = reading_at c k over n ∙ carried_reading reading (row_of old reading.id)
 
-  judged_reading : (n : ℕ) → (judged (c n) k (row_at c k over n)).reading ≡ reading
+  pub judged_reading : (n : ℕ) → (judged (c n) k (row_at c k over n)).reading ≡ reading
   judged_reading n = (work_keeps (c n) k (row_at c k over n)).reading ∙ over_reading n
 
-  judged_age : (n : ℕ) → (judged (c n) k (row_at c k over n)).age ≡ (row_at c k over n).age + 1
+  pub judged_age : (n : ℕ) → (judged (c n) k (row_at c k over n)).age ≡ (row_at c k over n).age + 1
   judged_age n = ap (λ (a : ℕ). a + 1) (work_keeps (c n) k (row_at c k over n)).age
 
 -- the row of an accepted course with new books
@@ -59,10 +60,10 @@ module _ (new : List Reading) (c : Course) (finishes : List ℕ) (accepts : Acce
   began_inside : k < length (map come_on new)
   began_inside = omega (arith, length-map new come_on)
 
-  walk_row : (n : ℕ) → get_or (books_at c (map come_on new) n) k blank_row ≡ row_at c k (come_on (get_or new k blank)) n
+  pub walk_row : (n : ℕ) → get_or (books_at c (map come_on new) n) k blank_row ≡ row_at c k (come_on (get_or new k blank)) n
   walk_row n = books_row c (map come_on new) k began_inside n ∙ ap (λ (r : Row). row_at c k r n) (began_row new k h)
 
-  walk_fresh : (n : ℕ) → (row_at c k (come_on (get_or new k blank)) n).age + 1 ≤ (get_or new k blank).validity
+  pub walk_fresh : (n : ℕ) → (row_at c k (come_on (get_or new k blank)) n).age + 1 ≤ (get_or new k blank).validity
   walk_fresh n =
       let r : Row = get_or (books_at c (map come_on new) n) k blank_row in
       let l = books_length c (map come_on new) n in
@@ -75,10 +76,10 @@ module _ (new : List Reading) (c : Course) (finishes : List ℕ) (accepts : Acce
       let g = ap (λ (x : Reading). x.validity) (reading_at c k (come_on (get_or new k blank)) n) in
       omega arith
 
-  finish_here : (row_at c k (come_on (get_or new k blank)) (get_or finishes k 0)).shown ≡ true
+  pub finish_here : (row_at c k (come_on (get_or new k blank)) (get_or finishes k 0)).shown ≡ true
   finish_here = ap (λ (x : Row). x.shown) (sym (walk_row (get_or finishes k 0))) ∙ (accepts.finish k began_inside).here
 
-  finish_first : (m : ℕ) → m < get_or finishes k 0 → (row_at c k (come_on (get_or new k blank)) m).shown ≡ false
+  pub finish_first : (m : ℕ) → m < get_or finishes k 0 → (row_at c k (come_on (get_or new k blank)) m).shown ≡ false
   finish_first m l = ap (λ (x : Row). x.shown) (sym (walk_row m)) ∙ (accepts.finish k began_inside).not_before m l
 
 -- a shared row that passes the test
@@ -140,9 +141,12 @@ module _ (old : List Row) (new : List Reading) (c : Course) (finishes : List ℕ
       let age : (carry d (row_of old d.id)).age ≡ r.age = ap (λ (q : Option Row). (carry d q).age) e in
       le-leb (r.age + f) d.validity (omega arith)
 
-  -- the test says yes exactly when no job is open and a crossing keeps every shared reading valid for ever
+  -- the test is that no job is open and a crossing keeps every shared reading valid for ever
+  pub test_keeps : MayCross old new finishes → Idle old × Keeps old new c
+  test_keeps t = (t.idle, keeps t)
+
+  pub keeps_test : Idle old → Keeps old new c → MayCross old new finishes
+  keeps_test idle kept = record { idle = idle; each = λ k h. tested k h (row_of old (get_or new k blank).id) refl kept }
+
   pub exact : (r : Bool) → Decides r (MayCross old new finishes) → Decides r (Idle old × Keeps old new c)
-  exact r t = (
-    λ e. ((t.0 e).idle, keeps (t.0 e)),
-    λ p. t.1 (record { idle = p.0; each = λ k h. tested k h (row_of old (get_or new k blank).id) refl p.1 }),
-  )
+  exact r t = (λ e. test_keeps (t.0 e), λ p. t.1 (keeps_test p.0 p.1))

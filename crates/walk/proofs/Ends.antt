@@ -9,6 +9,7 @@ use Rattle.repeat.specs.declared.found.NoRepeat.{NoRepeat}
 use Rattle.repeat.specs.declared.found.NoRepeat.TheVariants.{Nowhere}
 use Rattle.repeat.specs.declared.found.NoRepeat.TheVariants as end
 use Rattle.repeat.specs.declared.found.Repeat.{Repeat}
+use Rattle.repeat.proofs.Unique.{only as one_end}
 use Rattle.books.specs.Rows.{same_rows}
 use Rattle.books.specs.Slots.{books_at, fault_at}
 use Rattle.books.specs.declared.fault.Fault.{Fault}
@@ -132,6 +133,13 @@ module _ {Pos : Type 0} (kind : Kind Pos) (onward : (p : Pos) (n : ℕ) → kind
   -- no other outcome would do
   pub walks_only : (f : End) → ((x : End) → Ends x → x ≡ f) → (x : Outcome) → Walks kind p rs x → x ≡ as_outcome f
   walks_only f only x w = let b = walks_back x w in b.1.1 ∙ ap as_outcome (only b.0 b.1.0)
+
+  -- and no two outcomes would do
+  pub walks_one : (x y : Outcome) → Walks kind p rs x → Walks kind p rs y → x ≡ y
+  walks_one x y v w =
+      let a = walks_back x v in
+      let b = walks_back y w in
+      a.1.1 ∙ ap as_outcome (one_end (walk_steps kind) (p, rs) last_instant a.0 b.0 a.1.0 b.1.0) ∙ sym b.1.1
 
 -- a walk with new books of these rows, by how its search ended
 pub record Walked {Pos : Type 0} (kind : Kind Pos) (p : Pos) (rs : List Row) (x : Outcome) : Type 0 where

@@ -1,4 +1,5 @@
 mod Beside
+pub mod Calm
 pub mod Crossing
 pub mod Ends
 mod Finishing

@@ -1,22 +1,13 @@
--- A crossing: at an instant the books of one list become those of another.
-use Rattle.std.specs.Prelude.{◌≡◌, ℕ, ◌+◌, ◌<◌, ◌≤◌, Bool, true, List, map, length, slice_index_or, is_some, Some, None, Option, nat_le, slice_index}
+-- When a crossing keeps every shared reading valid, and the test for it.
+use Rattle.std.specs.Prelude.{◌≡◌, ℕ, ◌+◌, ◌<◌, ◌≤◌, Bool, true, List, length, slice_index_or, is_some, Some, None, Option, nat_le, slice_index}
 use Rattle.readings.specs.Ranges.{blank}
 use Rattle.readings.specs.declared.reading.Reading.{Reading}
 use Rattle.policy.specs.Course.{Course}
+use Rattle.books.specs.Crossings.{crossed}
 use Rattle.books.specs.Lookups.{Idle, row_of}
-use Rattle.books.specs.Rows.{blank_row, come_on}
+use Rattle.books.specs.Rows.{blank_row}
 use Rattle.books.specs.Slots.{books_at, judged_rows}
 use Rattle.books.specs.declared.row.Row.{Row}
-
--- a reading of the new list as it comes over: an id of the old books keeps age and value, and any other comes
--- on with age 0
-abbrev pub carry : Reading → Option Row → Row
-carry d None = come_on d
-carry d (Some r) = record { reading = d; shown = r.shown; age = r.age; job = None }
-
--- the books after a crossing from the old ones to a list
-abbrev pub crossed : List Row → List Reading → List Row
-crossed old new = map (λ d. carry d (row_of old d.id)) new
 
 -- among these rows, each whose id the old books have is valid
 abbrev pub SharedValid : List Row → List Row → Type 0

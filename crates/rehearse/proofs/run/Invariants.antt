@@ -1,6 +1,5 @@
-use Rattle.std.proofs.Common.{length}
-use Rattle.script.specs.Coming.{coming}
+use Rattle.script.specs.Stands.{most_left}
 use Rattle.rehearse.proofs.run.Given as goal
 
 abbrev pub decreases-loop-out : goal.decreases-loop-out
-decreases-loop-out l = length (coming l.rehearsal)
+decreases-loop-out l = most_left l.rehearsal

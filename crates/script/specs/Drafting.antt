@@ -1,16 +1,12 @@
--- What a line does: how it is answered, and the state that it leaves.
+-- What the lines of plans do: how each is answered, and what is then written of the plans.
 use Rattle.std.specs.Prelude.{ℕ, ◌+◌, Bool, true, false, if◌then◌else◌, ◌||◌, List, [], ◌∷◌, ◌++◌, Some, None, Ok, Err, Option, Result, ◌==◌, nat_le}
 use Rattle.readings.specs.Refusals.{Told}
 use Rattle.readings.specs.declared.reading.Proposal.{Proposal}
-use Rattle.lines.specs.Words.{command_of}
-use Rattle.lines.specs.declared.command.Command.{Command}
-use Rattle.lines.specs.declared.command.Command.TheVariants.{Half, More, Plan, Reading}
 use Rattle.script.specs.Plans.{Ready, planned}
 use Rattle.script.specs.declared.plan.Planner.{Planner}
-use Rattle.script.specs.declared.plan.Planner.TheVariants.{HalfHalf, MoreLess}
 
--- what a script has come to between two lines
-pub record State : Type 0 where
+-- what has been written of the plans between two lines
+pub record Drafting : Type 0 where
   -- how many plans have begun, at most two
   pub begun : ℕ
   -- the last of them has not ended
@@ -21,35 +17,35 @@ pub record State : Type 0 where
   pub first : Option Ready
   pub second : Option Ready
 
-abbrev pub at_first : State
-at_first = record { begun = 0; writing = false; proposed = []; first = None; second = None }
+abbrev pub no_plans : Drafting
+no_plans = record { begun = 0; writing = false; proposed = []; first = None; second = None }
 
--- how a line is answered, a refusal or none, and the state that it leaves
+-- how a line is answered, with a refusal or none, and what is then written
 abbrev pub Turn : Type 0
-Turn = Option Told × State
+Turn = Option Told × Drafting
 
 -- a line that is malformed or out of place changes nothing
-abbrev pub not_a_line : State → Turn
+abbrev pub not_a_line : Drafting → Turn
 not_a_line s = (Some (24, []), s)
 
 -- a plan begins, unless one is being written or two have begun
-abbrev pub begins : State → Turn
+abbrev pub begins : Drafting → Turn
 begins s =
     if s.writing || nat_le 2 s.begun then not_a_line s
     else (None, record { begun = s.begun + 1; writing = true; proposed = []; first = s.first; second = s.second })
 
 -- one reading more in the plan that is being written
-abbrev pub proposes : Proposal → State → Turn
+abbrev pub proposes : Proposal → Drafting → Turn
 proposes p s =
     if s.writing then (None, record { begun = s.begun; writing = true; proposed = s.proposed ++ p ∷ []; first = s.first; second = s.second })
     else not_a_line s
 
 -- no plan is being written
-abbrev pub closed : State → State
+abbrev pub closed : Drafting → Drafting
 closed s = record { begun = s.begun; writing = false; proposed = []; first = s.first; second = s.second }
 
 -- the plan that began last is ready
-abbrev pub keeps : Ready → State → State
+abbrev pub keeps : Ready → Drafting → Drafting
 keeps plan s =
     record {
       begun = s.begun;
@@ -60,24 +56,10 @@ keeps plan s =
     }
 
 -- a plan has ended: ready where it was made, and not ready where it was refused
-abbrev pub ended : Result Ready Told → State → Turn
+abbrev pub ended : Result Ready Told → Drafting → Turn
 ended (Ok plan) s = (None, keeps plan (closed s))
 ended (Err t) s = (Some t, closed s)
 
 -- the plan that is being written ends
-abbrev pub ends : Planner → State → Turn
+abbrev pub ends : Planner → Drafting → Turn
 ends planner s = if s.writing then ended (planned s.proposed planner) s else not_a_line s
-
-abbrev pub obeys : Command → State → Turn
-obeys Plan s = begins s
-obeys (Reading i c v) s = proposes (record { id = i; work = c; validity = v }) s
-obeys Half s = ends HalfHalf s
-obeys More s = ends MoreLess s
-
--- a line, given without the byte that ends it
-abbrev pub turn : List ℕ → State → Turn
-turn line s =
-    elim (command_of line) [
-      | Some command ↦ obeys command s
-      | None ↦ not_a_line s
-    ]

@@ -1,0 +1,10 @@
+pub mod Calls
+pub mod Crossed
+pub mod Finding
+pub mod Lasting
+pub mod Only
+pub mod Steadying
+pub mod Telling
+pub mod Turning
+pub mod Whole
+pub mod Window

@@ -1,0 +1,11 @@
+pub mod Asks
+pub mod Log
+pub mod Answers
+pub mod History
+pub mod Ages
+pub mod Promise
+pub mod Lasting
+pub mod Parts
+pub mod Tallies
+pub mod Held
+pub mod Follows
