@@ -1,14 +1,12 @@
-// Walks a policy of 16 rows that neither repeats nor faults, as many times as its argument says, and writes how
-// many of the walks ended for want of a repeat.
+//! Walks a policy of 16 rows that neither repeats nor faults, as many times as its argument says,
+//! and writes how many of the walks ended for want of a repeat.
 #![tactic(auto)]
 
-use periodic::periodic::Periodic;
-use planner::timings::Timings;
-use readings::list::Readings;
-use readings::reading::Proposal;
-use readings::refusal::Refusal;
+use periodic::Periodic;
+use planner::Timings;
+use readings::{Proposal, Readings, Refusal};
 use std::env;
-use walk::plan::Accepted;
+use walk::Accepted;
 
 fn main(rt: HostRuntime) -> anyhow::Result<()> {
     run(&rt)
@@ -20,27 +18,27 @@ fn run(rt: &HostRuntime) -> anyhow::Result<()> {
     for word in env::args(rt)?.skip(1) {
         times = word.parse::<u32>()?;
     }
-    let wandered = (0..times).filter(|turn| wanders(*turn)).count();
-    println!(rt; "{wandered} of {times} walks ended for want of a repeat")?;
+    let unrepeated = (0..times).filter(|number| finds_no_repeat(*number)).count();
+    println!(rt; "{unrepeated} of {times} walks ended for want of a repeat")?;
     Ok(())
 }
 
-// Whether the walk of this turn's list ends for want of a repeat.
-fn wanders(turn: u32) -> bool {
-    let Ok(list) = list_of(turn) else {
+// Whether the walk of the list with this number, counted from 0, ends for want of a repeat.
+fn finds_no_repeat(number: u32) -> bool {
+    let Ok(list) = list_of(number) else {
         return false;
     };
     let policy = Periodic::new(&Timings::half_half(&list));
     matches!(Accepted::walk(&list, policy), Err(Refusal::NoRepeat))
 }
 
-// Sixteen readings with validities from 200 on, the last of which depends on the turn.
-fn list_of(turn: u32) -> Result<Readings, Refusal> {
-    // `as`: a place is below 16, and a `try_from` would have an error that cannot come
+// Sixteen readings with validities from 200 slots on, the last of which depends on the number.
+fn list_of(number: u32) -> Result<Readings, Refusal> {
     let rows: [Proposal; 16] = std::array::from_fn(|k| {
         let validity = if k == 15 {
-            300 + turn % 50
+            300 + number % 50
         } else {
+            // a place below 16
             200 + 6 * k as u32
         };
         Proposal::new(k as u32 + 1, 4, validity)

@@ -1,227 +1,182 @@
--- One call, by what its code does to the board and what lasts and tallies.
-use Rattle.std.proofs.Common.{◌≡◌, ◌+◌, ℕ, ◌≤◌, true, false, List, map, length, get_or, is_some, Some, None, Option, option_map, Ok, Err, MatchOption, sym, refl, ap, ◌∙◌, subst, inl, inr, arith}
+-- One call, by what it does to the log that a board holds.
+use Rattle.std.proofs.Common.{◌≡◌, ℕ, ◌≤◌, false, true, List, map, [], is_some, Some, None, Option, Ok, Err, sym, refl, subst, inl, inr}
 use Rattle.std.proofs.lemmas.Bool.{both_ways, le-ltb}
-use Rattle.readings.specs.Lists.{rows_of as readings_of}
-use Rattle.readings.specs.Refusals.{told as refusal_told}
-use Rattle.readings.specs.declared.list.Readings.{Readings}
+use Rattle.readings.specs.Ranges.{WellMade}
+use Rattle.readings.specs.Refusals.{Content}
 use Rattle.readings.specs.declared.reading.Reading.{Reading}
-use Rattle.readings.specs.declared.refusal.Refusal.{Refusal}
-use Rattle.readings.specs.declared.refusal.Refusal.TheVariants as refusal
-use Rattle.readings.specs.Firsts.{first_of}
-use Rattle.readings.proofs.Firsts.{first_none}
-use Rattle.policy.specs.Course.{Course}
-use Rattle.books.specs.Crossings.{crossed, crossing_fault, late_fault}
-use Rattle.books.specs.Fresh.{Fresh}
-use Rattle.books.specs.Held.{rows_of}
-use Rattle.books.specs.Rows.{blank_row, come_on, stale}
-use Rattle.books.specs.Slots.{books_at, fault_at, slot}
+use Rattle.policy.specs.Course.{Meaning}
+use Rattle.policy.specs.declared.policy.Policy.{Ghosts}
+use Rattle.books.specs.Crossings.{crossing_fault}
+use Rattle.books.specs.Lookups.{row_of}
+use Rattle.books.specs.Rows.{come_on}
+use Rattle.books.specs.Slots.{books_at}
 use Rattle.books.specs.declared.row.Row.{Row}
-use Rattle.walk.specs.Plans.{Accepts, list_of, policy_of}
-use Rattle.walk.specs.Walks.{Kind, Walks, granted, refused}
-use Rattle.walk.specs.declared.plan.Accepted.{Accepted}
+use Rattle.walk.specs.Acceptance.{Accepts}
+use Rattle.walk.specs.Walks.{Walks, granted, refused}
 use Rattle.walk.proofs.Crossing.{keeps_test, test_keeps}
-use Rattle.board.specs.Asks as call
-use Rattle.board.specs.Asks.{Ask}
-use Rattle.board.specs.Answers.{Answers, Sound, SwitchChecks, tick_told}
-use Rattle.board.specs.Follows.{Follows, Turned, Turns}
-use Rattle.board.specs.Held.{crossing_of, crossing_to, run_log, running_of}
-use Rattle.board.specs.History.{History, recorded}
-use Rattle.board.specs.Parts.{ComesWell, EndsWell, FirstTested}
-use Rattle.board.specs.Lasting.{Lasting, LastingRun, Steady, WaitsWell}
-use Rattle.board.specs.Log.{Answer, Crossing, Log, Running, nearer, noted, rests, runs, slot_passes, started, ticked, to_come}
-use Rattle.board.specs.Promise.{Kept}
-use Rattle.board.specs.Tallies.{RunTallies}
+use Rattle.board.specs.Ages.{Means}
+use Rattle.board.specs.Answers.{Answers, NoneStale, SwitchChecks, show_reply, tick_grant}
+use Rattle.board.specs.Held.{log_of}
+use Rattle.board.specs.History.{History, history_after}
+use Rattle.board.specs.Lasting.{LastingRun}
+use Rattle.board.specs.Log.{Crossing, Log, Reply, Running, log_after, resting, running, started, ticked, to_come}
+use Rattle.board.specs.Parts.{FirstTested}
+use Rattle.board.specs.Promise.{KeepsPromise}
+use Rattle.board.specs.Requests as call
+use Rattle.board.specs.Requests.{Request}
+use Rattle.board.specs.Tallies.{Tallies}
 use Rattle.board.specs.declared.board.Board.{Board}
-use Rattle.board.specs.declared.board.Run.{Run}
-use Rattle.board.specs.declared.call.Reply.TheVariants as reply
-use Rattle.board.specs.declared.call.Started.{Started}
-use Rattle.board.specs.declared.call.Ticked.{Ticked}
-use Rattle.board.proofs.Only.{answers_one}
+use Rattle.board.specs.declared.call.Grant.TheVariants as grants
 use Rattle.board.proofs.Crossed.{crossed_steady}
-use Rattle.board.proofs.Lasting.{switch_lasts, tick_lasts}
-use Rattle.board.proofs.Steadying.{begins_steady, steady_sound, tick_sound}
-use Rattle.board.proofs.Telling.{starts_tallies, switch_tallies, tick_tallies}
+use Rattle.board.proofs.Lasting.{leads_well, switch_lasts, tick_lasts}
+use Rattle.board.proofs.Only.{answers_one}
+use Rattle.board.proofs.Steadying.{begins_steady, steady_sound, tick_ends, tick_judged}
+use Rattle.board.proofs.Telling.{show_means, starts_tallies, switch_tallies, tick_tallies}
 
 pub none_of : {A : Type 0} (o : Option A) → is_some o ≡ false → o ≡ None
 none_of None e = refl
 none_of (Some x) e = absurd (both_ways true e refl)
 
--- no row of fresh books is late
-fresh_clear : (rs : List Row) → Fresh rs → first_of (late_fault rs) 0 (length rs) ≡ None
-fresh_clear rs f =
-    sym (first_none (late_fault rs) 0 (length rs) (λ k h.
-    let r : Row = get_or rs k blank_row in
-    let e : stale r ≡ false = le-ltb r.reading.validity r.age (f.ages k (omega arith)) in
-    rw e))
+-- what is true of every log that a board holds
+abbrev pub Lasting : Log → Type 0
+Lasting resting = Unit {0}
+Lasting (running g) = LastingRun g
 
--- a crossing that leads to steady books leaves no row stale
-leads_well : (c : Course) (rs : List Row) (n : ℕ) (w : Crossing) → Steady w.course (crossed (books_at c rs n) w.list) → crossing_fault (books_at c rs n) w.list ≡ None
-leads_well c rs n w s = fresh_clear (crossed (books_at c rs n) w.list) s.fresh
+lasting_sound : (log : Log) → Lasting log → NoneStale log
+lasting_sound resting l = tt
+lasting_sound (running g) l = steady_sound g.course g.rows l.steady
 
-ends_well : (c : Course) (rs : List Row) (o : Option Crossing) → WaitsWell c rs o → MatchOption o (Unit {0}) (λ w. ComesWell (slot (c 0) rs) (nearer w))
-ends_well c rs None l = tt
-ends_well c rs (Some w) l = λ z.
-    let p = l.some in
-    let one : w.ticks ≡ 1 = omega arith in
-    subst (λ (n : ℕ). crossing_fault (books_at c rs n) w.list ≡ None) one (leads_well c rs w.ticks w l.steady)
+module _ {Pos : Type 0} (kind : Meaning Pos) where
+  -- a call that is answered by a log and leads to another keeps the promise
+  pub record LogKept (before : Log) (c : Request Pos) (a : Reply) (after : Log) : Type 0 where
+    pub lasting : Lasting before
+    pub answers : Answers kind before c a
+    pub log : after ≡ log_after kind c a before
+    pub still : Lasting after
+    pub ages : (h : History) → Tallies before h → Means c h a
+    pub tallies : (h : History) → Tallies before h → Tallies after (history_after c a h)
 
--- what a log that lasts promises now
-pub lasting_sound : (log : Log) → Lasting log → Sound log
-lasting_sound rests l = tt
-lasting_sound (runs g) l = steady_sound g.course g.rows l.steady
+  -- a refused call leaves the log as it was
+  pub refused_kept : (log : Log) (c : Request Pos) (e : Content) → Lasting log → Answers kind log c (Err e) → ((h : History) → Means c h (Err e)) → LogKept log c (Err e) log
+  refused_kept log c e l a m =
+      record { lasting = l; answers = a; log = refl; still = l; ages = λ h t. m h; tallies = λ h t. t }
 
--- a switch past its earlier checks
-checked : (g : Running) (latency : ℕ) (a : Answer) {Rest : Type 0} → g.waiting ≡ None → latency ≤ 4095 → Rest → SwitchChecks g latency a Rest
-checked g latency a free small rest = rw (free, le-ltb 4095 latency small) rest
+  pub tick_kept : (g : Running) → LastingRun g → LogKept (running g) call.tick (Ok (grants.Ticked (tick_grant g))) (running (ticked g))
+  tick_kept g l =
+      record {
+        lasting = l;
+        answers = record { answer = refl; judged = tick_judged g.course g.rows l.steady; ends = tick_ends g.course g.rows l.steady };
+        log = refl;
+        still = tick_lasts g l;
+        ages = λ h t. tt;
+        tallies = λ h t. tick_tallies g h l t;
+      }
 
-module _ {P Pos : Type 0} (kind : Kind Pos) (position : P → Pos) (onward : (p : Pos) (n : ℕ) → kind.course (kind.next p) n ≡ kind.course p (n + 1)) where
-  -- a call that is kept, by an answer that no other could replace
-  turned : (log : Log) (h : History) (c : Ask Pos) (a : Answer) (b : Board P) → Kept kind log h c a → Sound (noted kind.course c a log)
-      → Follows kind position (noted kind.course c a log) (recorded c a h) b → Turned kind position log h c a b
-  turned log h c a b k s f = record { kept = k; only = λ other x. answers_one kind onward log c other a x k.answers; sound = s; follows = f }
+  pub start_kept : (list : List Reading) (p : Pos) (finishes : List ℕ) (mark length : ℕ) → WellMade list
+      → Walks kind p (map come_on list) (granted mark length) → Accepts (kind.course p) (map come_on list) finishes
+      → LogKept resting (call.start list p) (Ok (grants.Started (record { mark = mark; length = length }))) (running (started list (kind.course p)))
+  start_kept list p finishes mark length law walks accepts =
+      record {
+        lasting = tt;
+        answers = record { outcome = granted mark length; walks = walks; answers = refl };
+        log = refl;
+        still = record { steady = begins_steady list (kind.course p) finishes law accepts; waits = λ w e. let never : ⊥ = cc in absurd never };
+        ages = λ h t. tt;
+        tallies = λ h t. starts_tallies list (kind.course p);
+      }
 
-  -- a refused call leaves the board, the log and the history as they were
-  pub refused_turns : (b : Board P) (c : Ask Pos) (e : Refusal) (log : Log) (h : History) → Follows kind position log h b → Answers kind log c (Err e) → Turned kind position log h c (Err e) b
-  refused_turns b c e log h f a =
-      let s = lasting_sound log f.lasts in
-      turned log h c (Err e) b (record { sound = s; answers = a; means = tt }) s f
+  pub start_refused : (list : List Reading) (p : Pos) (e : Content) → Walks kind p (map come_on list) (refused e) → LogKept resting (call.start list p) (Err e) resting
+  start_refused list p e walks =
+      refused_kept resting (call.start list p) e tt (record { outcome = refused e; walks = walks; answers = refl }) (λ h. tt)
 
-  module _ (b : Board P) where
-    -- a board that rests follows no log but the one that rests
-    pub resting : (Q : Log → Type 0) (log : Log) (h : History) → b.run ≡ None → Follows kind position log h b → (Follows kind position rests h b → Q rests) → Q log
-    resting Q log h e f q =
-        let is : rests ≡ log = ap (run_log kind.course position) (sym e) ∙ f.holds in
-        subst Q is (q (subst (λ (l : Log). Follows kind position l h b) (sym is) f))
+  -- a switch past its earlier checks
+  checked : (g : Running) (latency : ℕ) (a : Reply) {Rest : Type 0} → g.waiting ≡ None → latency ≤ 4095 → Rest → SwitchChecks g latency a Rest
+  checked g latency a free small rest = rw (free, le-ltb 4095 latency small) rest
 
-    -- and one that runs follows the log of its run
-    pub running : (Q : Log → Type 0) (r : Run P) (log : Log) (h : History) → b.run ≡ Some r → Follows kind position log h b
-        → (Follows kind position (runs (running_of kind.course position r)) h b → Q (runs (running_of kind.course position r))) → Q log
-    running Q r log h e f q =
-        let is : runs (running_of kind.course position r) ≡ log = ap (run_log kind.course position) (sym e) ∙ f.holds in
-        subst Q is (q (subst (λ (l : Log). Follows kind position l h b) (sym is) f))
+  module _ (g : Running) (l : LastingRun g) (list : List Reading) (law : WellMade list) (p : Pos) (latency : ℕ) (finishes : List ℕ) (mark length : ℕ)
+      (free : g.waiting ≡ None) (small : latency ≤ 4095)
+      (walks : Walks kind p (map come_on list) (granted mark length)) (accepts : Accepts (kind.course p) (map come_on list) finishes) where
+    abbrev there : ℕ → List Row
+    there n = books_at g.course g.rows n
 
-  pub tick_turns : (b : Board P) (r s : Run P) (t : Ticked) → b.run ≡ Some r
-      → (fault_at (running_of kind.course position r).course (rows_of r.books) 0 ≡ None → EndsWell (slot_passes (running_of kind.course position r))
-      → (t ≡ tick_told (running_of kind.course position r)) × (running_of kind.course position s ≡ ticked (running_of kind.course position r)))
-      → Turns kind position b call.tick (Ok (reply.Ticked t)) (record { run = Some s })
-  tick_turns b r s t e does log h f =
-      running b (λ (l : Log). Turned kind position l h call.tick (Ok (reply.Ticked t)) (record { run = Some s })) r log h e f (λ f.
-      let g : Running = running_of kind.course position r in
-      let l : LastingRun g = f.lasts in
-      let d = does (l.steady.calm 0) (ends_well g.course g.rows g.waiting l.waits) in
-      let fresh = tick_sound g.course g.rows l.steady in
-      let on = tick_lasts g l in
-      turned (runs g) h call.tick (Ok (reply.Ticked t)) (record { run = Some s })
-      (record {
-        sound = steady_sound g.course g.rows l.steady;
-        answers = record { answer = ap (λ (x : Ticked). Ok (reply.Ticked x)) d.0; judged = fresh.0; ends = fresh.1 };
-        means = tt;
-      })
-      (steady_sound (ticked g).course (ticked g).rows on.steady)
-      (record {
-        holds = ap runs d.1;
-        lasts = on;
-        tallies = subst (λ (x : Ticked). RunTallies (ticked g) (recorded {Pos = Pos} call.tick (Ok (reply.Ticked x)) h)) (sym d.0) (tick_tallies g h l f.tallies);
-      }))
+    -- a crossing at an instant where the test says yes leaves no row stale
+    pub comes_well : (ticks : ℕ) → FirstTested g.course g.rows list finishes latency (Some ticks) → crossing_fault (there ticks) list ≡ None
+    comes_well ticks first =
+        leads_well g.course g.rows ticks (record { ticks = ticks; list = list; course = kind.course p })
+        (crossed_steady (there ticks) list (kind.course p) finishes law accepts first.1)
 
-  pub start_turns : (b : Board P) (s : Run P) (list : Readings) (p : P) (plan : Accepted P) (finishes : List ℕ) (x : Started) → b.run ≡ None
-      → Walks kind (position p) (map come_on (readings_of list)) (granted x.mark x.length) → Accepts (kind.course (position p)) (map come_on (readings_of list)) finishes
-      → list_of plan ≡ list → policy_of plan ≡ p
-      → running_of kind.course position s ≡ started (readings_of (list_of plan)) (kind.course (position (policy_of plan)))
-      → Turns kind position b (call.start (readings_of list) (position p)) (Ok (reply.Started x)) (record { run = Some s })
-  start_turns b s list p plan finishes x e walks accepts same_list same_policy begun log h f =
-      resting b (λ (l : Log). Turned kind position l h (call.start (readings_of list) (position p)) (Ok (reply.Started x)) (record { run = Some s })) log h e f (λ f.
-      let c = kind.course (position p) in
-      let rows = readings_of list in
-      let steady = begins_steady rows c finishes list.law accepts in
-      turned rests h (call.start rows (position p)) (Ok (reply.Started x)) (record { run = Some s })
-      (record { sound = tt; answers = record { outcome = granted x.mark x.length; walks = walks; answers = refl }; means = tt })
-      (steady_sound c (map come_on rows) steady)
-      (record {
-        holds = ap runs (begun ∙ ap (λ (l : Readings). started (readings_of l) (kind.course (position (policy_of plan)))) same_list ∙ ap (λ (q : P). started rows (kind.course (position q))) same_policy);
-        lasts = record { steady = steady; waits = tt };
-        tallies = starts_tallies rows c;
-      }))
-
-  -- a walk that is refused
-  pub start_refused : (b : Board P) (list : Readings) (p : P) (e : Refusal) → b.run ≡ None → Walks kind (position p) (map come_on (readings_of list)) (refused (refusal_told e))
-      → Turns kind position b (call.start (readings_of list) (position p)) (Err e) b
-  start_refused b list p e none walks log h f =
-      resting b (λ (l : Log). Turned kind position l h (call.start (readings_of list) (position p)) (Err e) b) log h none f (λ f.
-      refused_turns b (call.start (readings_of list) (position p)) e rests h f (record { outcome = refused (refusal_told e); walks = walks; answers = refl }))
-
-  module _ (b : Board P) (r : Run P) (list : Readings) (p : P) (latency : ℕ) (plan : Accepted P) (finishes : List ℕ) (mark length : ℕ) (e : b.run ≡ Some r)
-      (free : r.waiting ≡ None) (small : latency ≤ 4095)
-      (walks : Walks kind (position p) (map come_on (readings_of list)) (granted mark length)) (accepts : Accepts (kind.course (position p)) (map come_on (readings_of list)) finishes) where
-    abbrev g : Running
-    g = running_of kind.course position r
-
-    abbrev c : Course
-    c = kind.course (position p)
-
-    abbrev rows : List Reading
-    rows = readings_of list
-
-    pub switch_turns : (s : Run P) (ticks : ℕ) → list_of plan ≡ list → policy_of plan ≡ p → (((n : ℕ) → fault_at g.course g.rows n ≡ None) → FirstTested g.course g.rows rows finishes latency (Some ticks))
-        → (ComesWell g.rows (crossing_to kind.course position plan ticks) → running_of kind.course position s ≡ to_come (crossing_to kind.course position plan ticks) g)
-        → Turns kind position b (call.switch (readings_of list) (position p) latency) (Ok (reply.Switched ticks)) (record { run = Some s })
-    switch_turns s ticks same_list same_policy first moved log h f =
-        running b (λ (l : Log). Turned kind position l h (call.switch (readings_of list) (position p) latency) (Ok (reply.Switched ticks)) (record { run = Some s })) r log h e f (λ f.
-        let l : LastingRun g = f.lasts in
-        let is = first l.steady.calm in
-        let there : List Row = books_at g.course g.rows ticks in
-        let w : Crossing = record { ticks = ticks; list = rows; course = c } in
-        let same : crossing_to kind.course position plan ticks ≡ w =
-        ap (λ (x : Readings). record { ticks = ticks; list = readings_of x; course = kind.course (position (policy_of plan)) }) same_list
-        ∙ ap (λ (x : P). record { ticks = ticks; list = rows; course = kind.course (position x) }) same_policy in
-        let to = crossed_steady there rows c finishes list.law accepts is.1 in
-        let well : ComesWell g.rows w = λ z. subst (λ (n : ℕ). crossing_fault (books_at g.course g.rows n) rows ≡ None) z (leads_well g.course g.rows ticks w to) in
-        let on = switch_lasts g w l.steady is.1.idle to in
-        let good = test_keeps there rows c finishes accepts is.1 in
-        turned (runs g) h (call.switch rows (position p) latency) (Ok (reply.Switched ticks)) (record { run = Some s })
-        (record {
-          sound = steady_sound g.course g.rows l.steady;
-          answers = checked g latency (Ok (reply.Switched ticks)) (ap (option_map (crossing_of kind.course position)) free) small
+    pub switch_kept : (ticks : ℕ) → FirstTested g.course g.rows list finishes latency (Some ticks)
+        → LogKept (running g) (call.switch list p latency) (Ok (grants.Switched ticks)) (running (to_come (record { ticks = ticks; list = list; course = kind.course p }) g))
+    switch_kept ticks first =
+        let w : Crossing = record { ticks = ticks; list = list; course = kind.course p } in
+        let to = crossed_steady (there ticks) list (kind.course p) finishes law accepts first.1 in
+        let good = test_keeps (there ticks) list (kind.course p) finishes accepts first.1 in
+        record {
+          lasting = l;
+          answers = checked g latency (Ok (grants.Switched ticks)) free small
               (record {
                 outcome = granted mark length;
                 walks = walks;
                 answers = inl (record {
                   ticks = ticks;
                   answer = refl;
-                  within = is.0;
+                  within = first.0;
                   good = record { idle = good.0; keeps = good.1 };
-                  first = λ k i no'. is.2 k i (keeps_test (books_at g.course g.rows k) rows c finishes accepts no'.idle no'.keeps);
+                  first = λ k i not_first. first.2 k i (keeps_test (there k) list (kind.course p) finishes accepts not_first.idle not_first.keeps);
                 });
               });
-          means = tt;
-        })
-        (steady_sound (to_come w g).course (to_come w g).rows on.steady)
-        (record {
-          holds = ap runs (moved (subst (ComesWell g.rows) (sym same) well) ∙ ap (λ (x : Crossing). to_come x g) same);
-          lasts = on;
-          tallies = switch_tallies w g h f.tallies;
-        }))
+          log = refl;
+          still = switch_lasts g w l.steady first.1.idle to;
+          ages = λ h t. tt;
+          tallies = λ h t. switch_tallies w g h t;
+        }
 
     -- where the test says yes at no instant, none is good
-    pub none_turns : (((n : ℕ) → fault_at g.course g.rows n ≡ None) → FirstTested g.course g.rows rows finishes latency None)
-        → Turns kind position b (call.switch (readings_of list) (position p) latency) (Err refusal.NoInstant) b
-    none_turns none log h f =
-        running b (λ (l : Log). Turned kind position l h (call.switch (readings_of list) (position p) latency) (Err refusal.NoInstant) b) r log h e f (λ f.
-        let l : LastingRun g = f.lasts in
-        let never = none l.steady.calm in
-        refused_turns b (call.switch (readings_of list) (position p) latency) refusal.NoInstant (runs g) h f
-        (checked g latency (Err refusal.NoInstant) (ap (option_map (crossing_of kind.course position)) free) small
+    pub none_kept : FirstTested g.course g.rows list finishes latency None → LogKept (running g) (call.switch list p latency) (Err (18, [])) (running g)
+    none_kept none =
+        refused_kept (running g) (call.switch list p latency) (18, []) l
+        (checked g latency (Err (18, [])) free small
         (record {
           outcome = granted mark length;
           walks = walks;
-          answers = inr (record { answer = refl; none = λ k i good. never k i (keeps_test (books_at g.course g.rows k) rows c finishes accepts good.idle good.keeps) });
-        })))
+          answers = inr (record { answer = refl; none = λ k i good. none k i (keeps_test (there k) list (kind.course p) finishes accepts good.idle good.keeps) });
+        })) (λ h. tt)
 
   -- a switch whose walk is refused
-  pub switch_refused : (b : Board P) (r : Run P) (list : Readings) (p : P) (latency : ℕ) (e : Refusal) → b.run ≡ Some r → r.waiting ≡ None → latency ≤ 4095
-      → Walks kind (position p) (map come_on (readings_of list)) (refused (refusal_told e)) → Turns kind position b (call.switch (readings_of list) (position p) latency) (Err e) b
-  switch_refused b r list p latency e is free small walks log h f =
-      running b (λ (l : Log). Turned kind position l h (call.switch (readings_of list) (position p) latency) (Err e) b) r log h is f (λ f.
-      let g : Running = running_of kind.course position r in
-      refused_turns b (call.switch (readings_of list) (position p) latency) e (runs g) h f
-      (checked g latency (Err e) (ap (option_map (crossing_of kind.course position)) free) small (record { outcome = refused (refusal_told e); walks = walks; answers = refl })))
+  pub switch_refused : (g : Running) → LastingRun g → (list : List Reading) (p : Pos) (latency : ℕ) (e : Content) → g.waiting ≡ None → latency ≤ 4095
+      → Walks kind p (map come_on list) (refused e) → LogKept (running g) (call.switch list p latency) (Err e) (running g)
+  switch_refused g l list p latency e free small walks =
+      refused_kept (running g) (call.switch list p latency) e l
+      (checked g latency (Err e) free small (record { outcome = refused e; walks = walks; answers = refl })) (λ h. tt)
+
+  -- a show, granted or refused
+  pub show_kept : (g : Running) → LastingRun g → (id : ℕ) (o : Option Row) → row_of g.rows id ≡ o → LogKept (running g) (call.show id) (show_reply o) (running g)
+  show_kept g l id None e = refused_kept (running g) (call.show id) (19, []) l (rw e refl) (λ h. tt)
+  show_kept g l id (Some r) e =
+      record {
+        lasting = l;
+        answers = rw e refl;
+        log = refl;
+        still = l;
+        ages = λ h t. show_means g h id r t e;
+        tallies = λ h t. t;
+      }
+
+  pub stop_kept : (g : Running) → LastingRun g → LogKept (running g) call.stop (Ok grants.Stopped) resting
+  stop_kept g l = record { lasting = l; answers = refl; log = refl; still = tt; ages = λ h t. tt; tallies = λ h t. tt }
+
+-- a board that holds the one log before the call and the other after it
+pub keeps : {P : Type 0} {kind : Ghosts P} (b c : Board P kind) (call : Request kind.Position) (a : Reply) (before after : Log) → log_of b ≡ before → log_of c ≡ after
+    → LogKept kind.meaning before call a after → KeepsPromise b call a c
+keeps {P} {kind} b c call a before after e f k =
+    let k' : LogKept kind.meaning (log_of b) call a (log_of c) =
+    subst (λ (l : Log). LogKept kind.meaning l call a (log_of c)) (sym e) (subst (LogKept kind.meaning before call a) (sym f) k) in
+    record {
+      sound = lasting_sound (log_of b) k'.lasting;
+      answers = k'.answers;
+      only = λ other x. answers_one kind.meaning (log_of b) call other a x k'.answers;
+      log = k'.log;
+      still_sound = lasting_sound (log_of c) k'.still;
+      ages = k'.ages;
+      tallies = k'.tallies;
+    }

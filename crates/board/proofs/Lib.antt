@@ -1,10 +1,13 @@
+pub mod Boards
 pub mod Calls
 pub mod Crossed
 pub mod Finding
 pub mod Lasting
 pub mod Only
+pub mod Runs
 pub mod Steadying
 pub mod Telling
+pub mod Ticking
 pub mod Turning
 pub mod Whole
 pub mod Window

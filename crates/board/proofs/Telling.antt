@@ -9,18 +9,18 @@ use Rattle.policy.specs.Course.{Answer, Course}
 use Rattle.books.specs.Crossings.{carry}
 use Rattle.books.specs.Lookups.{row_of}
 use Rattle.books.specs.Rows.{blank_row, finished}
-use Rattle.books.specs.Slots.{judged, turned}
+use Rattle.books.specs.Slots.{judged, row_after}
 use Rattle.books.specs.declared.row.Row.{Row}
 use Rattle.books.proofs.RowRuns.{run_works, sampled_closed}
 use Rattle.board.specs.Ages.{AgeMeans, has, place_from, stay, tick_of}
-use Rattle.board.specs.Answers.{crosses, tick_told}
-use Rattle.board.specs.History.{Event, History, came, comes_in, in_use, no_history, passed, tick_recorded, end_recorded}
+use Rattle.board.specs.Answers.{crosses, tick_grant}
+use Rattle.board.specs.History.{Event, History, came, comes_in, in_use, no_history, passed, after_tick, after_end}
 use Rattle.board.specs.Lasting.{LastingRun, Steady}
 use Rattle.board.specs.Log.{Crossing, Running, crosses_in, nearer, slot_passes, started, tick_ends, ticked, to_come}
 use Rattle.board.specs.Tallies.{RowTallies, RunTallies}
-use Rattle.board.specs.declared.call.Reply.TheVariants as reply
+use Rattle.board.specs.declared.call.Grant.TheVariants as grants
 use Rattle.board.proofs.Finding.{each_readings, crossed_readings, find_crossed, find_each, found_both, number_names, readings}
-use Rattle.board.proofs.Turning.{finish_runs, made, turn_tallies, turned_reading}
+use Rattle.board.proofs.Turning.{finish_runs, made, row_tallies, row_after_reading}
 
 -- a slot of steady books passes
 module _ (g : Running) (steady : Steady g.course g.rows) where
@@ -28,38 +28,38 @@ module _ (g : Running) (steady : Steady g.course g.rows) where
   answer = g.course 0
 
   -- the number of a reply names a row just where its job finishes
-  shown_names : (k : ℕ) → k < length g.rows → eqb (tick_told g).shown (k + 1) ≡ finished (judged answer k (get_or g.rows k blank_row)).job
+  shown_names : (k : ℕ) → k < length g.rows → eqb (tick_grant g).shown (k + 1) ≡ finished (judged answer k (get_or g.rows k blank_row)).job
   shown_names k h =
       let from_none : 0 + k ≡ k = omega arith in
       let only = λ (j : ℕ) (i : j < length g.rows) (f : finished (judged answer (0 + j) (get_or g.rows j blank_row)).job ≡ true).
-      finish_runs (get_or g.rows j blank_row) (steady.works j i) (steady.undone j i) answer (0 + j) f in
-      subst (λ (j : ℕ). eqb (tick_told g).shown (j + 1) ≡ finished (judged answer j (get_or g.rows k blank_row)).job) from_none
+      finish_runs (get_or g.rows j blank_row) (steady.works j blank_row i) (steady.undone j blank_row i) answer (0 + j) f in
+      subst (λ (j : ℕ). eqb (tick_grant g).shown (j + 1) ≡ finished (judged answer j (get_or g.rows k blank_row)).job) from_none
       (number_names (λ j r. finished (judged answer j r).job) answer.1 0 g.rows only k h)
 
   -- and the tick that is told for a row is the one that its answer makes
-  told_made : (k : ℕ) → k < length g.rows → tick_of (readings g.rows) (tick_told g) (Some k) ≡ made answer k (get_or g.rows k blank_row)
-  told_made k h =
+  grant_made : (k : ℕ) → k < length g.rows → tick_of (readings g.rows) (tick_grant g) (Some k) ≡ made answer k (get_or g.rows k blank_row)
+  grant_made k h =
       let s = shown_names k h in
       let w : get_or (readings g.rows) k blank ≡ (get_or g.rows k blank_row).reading = get_or-map (λ (r : Row). r.reading) g.rows k blank_row blank h in
       cc
 
-  slot_tallies : (h : History) → RunTallies g h → RunTallies (slot_passes g) (record { events = passed (in_use h.events) (tick_told g) ∷ h.events; next = h.next })
+  slot_tallies : (h : History) → RunTallies g h → RunTallies (slot_passes g) (record { events = passed (in_use h.events) (tick_grant g) ∷ h.events; next = h.next })
   slot_tallies h t =
       record {
-        list = t.list ∙ sym (each_readings (turned answer) (turned_reading answer) 0 g.rows);
+        list = t.list ∙ sym (each_readings (row_after answer) (row_after_reading answer) 0 g.rows);
         next = t.next;
         rows = λ id x e.
-            let i = find_each (turned answer) (turned_reading answer) 0 g.rows id x e in
+            let i = find_each (row_after answer) (row_after_reading answer) 0 g.rows id x e in
             let k = i.place in
             let r : Row = get_or g.rows k blank_row in
             let from_none : 0 + k ≡ k = omega arith in
-            let calm = steady.calm 0 in
+            let calm = steady.faultless 0 in
             let place : place_from 0 (in_use h.events) id ≡ Some k = ap (λ (l : List Reading). place_from 0 l id) t.list ∙ i.counted ∙ ap Some from_none in
-            let made_so : tick_of (in_use h.events) (tick_told g) (place_from 0 (in_use h.events) id) ≡ made answer k r =
-            let a = t.list in let b = told_made k i.inside in cc in
-            let is : x ≡ turned answer k r = i.after ∙ ap (λ (j : ℕ). turned answer j r) from_none in
-            let on : RowTallies (made answer k r ∷ stay id h.events) (turned answer k r) =
-            turn_tallies (stay id h.events) r (t.rows id r i.before) (steady.works k i.inside) (steady.undone k i.inside) answer k
+            let made_so : tick_of (in_use h.events) (tick_grant g) (place_from 0 (in_use h.events) id) ≡ made answer k r =
+            let a = t.list in let b = grant_made k i.inside in cc in
+            let is : x ≡ row_after answer k r = i.after ∙ ap (λ (j : ℕ). row_after answer j r) from_none in
+            let on : RowTallies (made answer k r ∷ stay id h.events) (row_after answer k r) =
+            row_tallies (stay id h.events) r (t.rows id r i.before) (steady.works k blank_row i.inside) (steady.undone k blank_row i.inside) answer k
             (sampled_closed answer g.rows steady.fresh.few calm k i.inside) (run_works answer g.rows calm k i.inside) in
             rw made_so (subst (RowTallies (made answer k r ∷ stay id h.events)) (sym is) on);
       }
@@ -103,13 +103,13 @@ switch_tallies w g h t =
 
 -- the end of a tick
 tick_end : (g : Running) (h : History) (o : Option Crossing) → h.next ≡ option_map (λ (w : Crossing). w.list) o
-    → RunTallies g h → RunTallies (tick_ends o g) (end_recorded (crosses o) h.events h.next)
+    → RunTallies g h → RunTallies (tick_ends o g) (after_end (crosses o) h.events h.next)
 tick_end g h None next t = rw next (record { list = t.list; next = sym next ∙ t.next; rows = t.rows })
 tick_end g h (Some w) next t = rw next (switch_tallies (nearer w) g h t)
 
-pub tick_tallies : (g : Running) (h : History) → LastingRun g → RunTallies g h → RunTallies (ticked g) (tick_recorded (reply.Ticked (tick_told g)) h)
+pub tick_tallies : (g : Running) (h : History) → LastingRun g → RunTallies g h → RunTallies (ticked g) (after_tick (grants.Ticked (tick_grant g)) h)
 tick_tallies g h lasting tallies =
-    tick_end (slot_passes g) (record { events = passed (in_use h.events) (tick_told g) ∷ h.events; next = h.next }) g.waiting tallies.next
+    tick_end (slot_passes g) (record { events = passed (in_use h.events) (tick_grant g) ∷ h.events; next = h.next }) g.waiting tallies.next
     (slot_tallies g lasting.steady h tallies)
 
 -- a show gives the age of the row of its id

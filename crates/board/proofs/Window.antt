@@ -21,16 +21,21 @@ module _ (c : Course) (rs : List Row) (list : List Reading) (finishes : List ℕ
       → MayCross (books_at c rs k) list finishes → ⊥
   tested k here books r a d e m = both_ways r e (d.1 (subst (λ (qs : List Row). MayCross qs list finishes) (sym a.rows) m))
 
-  -- one slot further, where the test says no and the slot has no fault
-  pub onwards : (k : ℕ) (here next : Course) (books after : List Row) (a : Answer) {B : Type 0} → Ahead k here books → fault_at c rs k ≡ None
-      → (MayCross (books_at c rs k) list finishes → ⊥) → ((m : ℕ) → next m ≡ here (m + 1)) → a ≡ here 0
-      → (fault a books ≡ None → B × (after ≡ slot a books)) → Ahead (k + 1) next after
-  onwards k here next books after a ahead calm never moved first taken =
+  -- the answer of the course has no fault there
+  pub clear : (k : ℕ) (here : Course) (books : List Row) (a : Answer) → Ahead k here books → fault_at c rs k ≡ None → a ≡ here 0 → fault a books ≡ None
+  clear k here books a ahead faultless first =
       let same : a ≡ c k = first ∙ ahead.course 0 ∙ ap c (omega arith) in
-      let clear : fault a books ≡ None = ap (λ (x : Answer). fault x books) same ∙ ap (fault (c k)) ahead.rows ∙ calm in
+      ap (λ (x : Answer). fault x books) same ∙ ap (fault (c k)) ahead.rows ∙ faultless
+
+  -- one slot further, where the test says no
+  pub onwards : (k : ℕ) (here next : Course) (books after : List Row) (a : Answer) → Ahead k here books
+      → (MayCross (books_at c rs k) list finishes → ⊥) → ((m : ℕ) → next m ≡ here (m + 1)) → a ≡ here 0
+      → after ≡ slot a books → Ahead (k + 1) next after
+  onwards k here next books after a ahead never moved first taken =
+      let same : a ≡ c k = first ∙ ahead.course 0 ∙ ap c (omega arith) in
       record {
         course = λ m. moved m ∙ ahead.course (m + 1) ∙ ap c (omega arith);
-        rows = rw add-one ((taken clear).1 ∙ ap (λ (x : Answer). slot x books) same ∙ ap (slot (c k)) ahead.rows);
+        rows = rw add-one (taken ∙ ap (λ (x : Answer). slot x books) same ∙ ap (slot (c k)) ahead.rows);
         none = λ j h m.
             elim (cases_eq j k) [
               | inl last ↦ never (subst (λ (i : ℕ). MayCross (books_at c rs i) list finishes) last m)

@@ -1,34 +1,30 @@
--- What a board holds, as a log has it.
-use Rattle.std.specs.Prelude.{ℕ, Some, None, Option, option_map}
-use Rattle.readings.specs.Lists.{rows_of as readings_of}
-use Rattle.policy.specs.Course.{Course}
+-- Part of the promise: the log that a board holds.
+use Rattle.std.specs.Prelude.{Some, None, Option}
+use Rattle.policy.specs.Policies.{course_of}
+use Rattle.policy.specs.declared.policy.Policy.{Ghosts}
 use Rattle.books.specs.Held.{rows_of}
-use Rattle.walk.specs.Plans.{list_of, policy_of}
-use Rattle.walk.specs.declared.plan.Accepted.{Accepted}
-use Rattle.board.specs.Log.{Crossing, Log, Running, rests, runs}
+use Rattle.board.specs.Log.{Log, Running, resting, running}
+use Rattle.board.specs.Waits.{waiting_of}
 use Rattle.board.specs.declared.board.Board.{Board}
-use Rattle.board.specs.declared.board.Run.{Run}
-use Rattle.board.specs.declared.board.Waiting.{Waiting}
+use Rattle.board.specs.declared.run.Run.{Run}
 
--- a board that runs
-abbrev pub board_of : {P : Type 0} → Run P → Board P
-board_of r = record { run = Some r }
+module _ {P : Type 0} {kind : Ghosts P} where
+  -- the books, the course and the waiting crossing of a run
+  abbrev pub running_of : Run P kind → Running
+  running_of r =
+      record {
+        rows = rows_of r.books;
+        course = course_of kind r.policy;
+        waiting = waiting_of r.waiting;
+      }
 
--- policies, by the courses of their positions
-module _ {P Pos : Type 0} (course : Pos → Course) (position : P → Pos) where
-  -- a crossing to a plan, so many ticks ahead
-  abbrev pub crossing_to : Accepted P → ℕ → Crossing
-  crossing_to plan ticks = record { ticks = ticks; list = readings_of (list_of plan); course = course (position (policy_of plan)) }
+  abbrev pub log_of_run : Option (Run P kind) → Log
+  log_of_run None = resting
+  log_of_run (Some r) = running (running_of r)
 
-  abbrev pub crossing_of : Waiting P → Crossing
-  crossing_of w = crossing_to w.plan w.ticks
+  abbrev pub log_of : Board P kind → Log
+  log_of b = log_of_run b.run
 
-  abbrev pub running_of : Run P → Running
-  running_of r = record { rows = rows_of r.books; course = course (position r.policy); waiting = option_map crossing_of r.waiting }
-
-  abbrev pub run_log : Option (Run P) → Log
-  run_log None = rests
-  run_log (Some r) = runs (running_of r)
-
-  abbrev pub log_of : Board P → Log
-  log_of b = run_log b.run
+  -- a board that runs
+  abbrev pub board_of : Run P kind → Board P kind
+  board_of r = record { run = Some r }

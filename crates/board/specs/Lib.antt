@@ -1,11 +1,11 @@
-pub mod Asks
+pub mod Requests
 pub mod Log
 pub mod Answers
 pub mod History
 pub mod Ages
+pub mod Waits
+pub mod Held
+pub mod Tallies
 pub mod Promise
 pub mod Lasting
 pub mod Parts
-pub mod Tallies
-pub mod Held
-pub mod Follows

@@ -1,62 +1,79 @@
-use readings::list::Readings;
+use readings::Readings;
 
-// A call to a board.
+/// A call to a board.
 #[derive(Drop)]
 pub enum Call<P> {
-    // a plan is to run
+    /// A plan is to run.
     Start {
+        /// The list of its readings.
         list: Readings,
+        /// Its policy, at the position of its first slot.
         policy: P,
     },
-    // a slot passes
+    /// A slot passes.
     Tick,
-    // another plan is to cross in, at most so many ticks from now
+    /// Another plan is to cross in.
     Switch {
+        /// The list of its readings.
         list: Readings,
+        /// Its policy, at the position of its first slot.
         policy: P,
+        /// The most ticks from now until the crossing, 0 to 4,095.
         latency: u16,
     },
-    // how old is the value of this id?
+    /// How old is the value of a reading?
     Show {
+        /// The id of the reading.
         id: u16,
     },
-    // the board is to rest
+    /// The board is to rest.
     Stop,
 }
 
-// What a granted start answers: the mark and the length of the walk's repeat.
+/// What a start grants: where its walk found a repeat.
 #[derive(Clone, Copy, PartialEq, Eq, Debug)]
 pub struct Started {
+    /// The mark of the repeat, an instant.
     pub mark: u16,
+    /// The slots from the mark to the repeat.
     pub length: u16,
 }
 
-// What a granted tick answers: the rows sampled as a mask, the row run, the row whose value went on show, 0 for none, and
-// whether a crossing happened at its end.
+/// What a tick grants: what happened in its slot.
 #[derive(Clone, Copy, PartialEq, Eq, Debug)]
 pub struct Ticked {
+    /// The rows sampled as a mask, row k standing for 2^(k - 1).
     pub sampled: u16,
+    /// The row run, counted from 1, or 0 for none.
     pub run: u8,
+    /// The row whose value went on show, counted from 1, or 0 for none.
     pub shown: u8,
+    /// Whether a crossing happened at the end of the tick.
     pub crossed: bool,
 }
 
-// What a granted show answers: whether a value is on show, its age, or without a value the slots since the id came on, and
-// the validity.
+/// What a show grants: how old a reading is.
 #[derive(Clone, Copy, PartialEq, Eq, Debug)]
 pub struct Shown {
+    /// Whether a value is on show.
     pub value: bool,
+    /// The slots since the sample of that value or, without one, since the id came on.
     pub age: u16,
+    /// The validity of the reading, in slots.
     pub validity: u16,
 }
 
-// What a granted call answers.
+/// What a board grants to a call.
 #[derive(Clone, Copy, PartialEq, Eq, Debug)]
-pub enum Reply {
+pub enum Grant {
+    /// A plan runs.
     Started(Started),
+    /// A slot has passed.
     Ticked(Ticked),
-    // the number of ticks until the crossing
+    /// A crossing comes after so many ticks, 0 for at once.
     Switched(u16),
+    /// How old a reading is.
     Shown(Shown),
+    /// The board rests.
     Stopped,
 }

@@ -23,8 +23,8 @@ module _ (ds : List Reading) (well : WellMade ds) (c : Course) (k : ℕ) (h : k 
   inside : k < length rows
   inside = omega (arith, length-map ds come_on)
 
-  tracked : (n : ℕ) → ((m : ℕ) → m < n → fault_at c rows m ≡ None) → Tracks c k work (well.works k h).0 n (get_or (books_at c rows n) k blank_row)
-  tracked zero calm = subst (Tracks c k work (well.works k h).0 0) (sym (began_row ds k h)) (tracks_none c k work (well.works k h).0 (get_or ds k blank) refl)
+  tracked : (n : ℕ) → ((m : ℕ) → m < n → fault_at c rows m ≡ None) → Tracks c k work (well.works k blank h).0 n (get_or (books_at c rows n) k blank_row)
+  tracked zero calm = subst (Tracks c k work (well.works k blank h).0 0) (sym (began_row ds k h)) (tracks_none c k work (well.works k blank h).0 (get_or ds k blank) refl)
   tracked (suc n) calm =
       let bs : List Row = books_at c rows n in
       let r : Row = get_or bs k blank_row in
@@ -32,7 +32,7 @@ module _ (ds : List Reading) (well : WellMade ds) (c : Course) (k : ℕ) (h : k 
       let m = length-map ds come_on in
       let few = well.few in
       let here = calm n (omega arith) in
-      let t = tracks_on c k work (well.works k h).0 n r (tracked n (λ m i. calm m (omega arith)))
+      let t = tracks_on c k work (well.works k blank h).0 n r (tracked n (λ m i. calm m (omega arith)))
       (sampled_closed (c n) bs (omega arith) here k (omega arith)) (run_works (c n) bs here k (omega arith)) in
       let e = slot_row (c n) bs k (omega arith) in
       rw (← add-one, e) t
@@ -40,7 +40,7 @@ module _ (ds : List Reading) (well : WellMade ds) (c : Course) (k : ℕ) (h : k 
 pub ages_counted : (ds : List Reading) → WellMade ds → AgesCounted (map come_on ds)
 ages_counted ds well c n calm k h =
     let i : k < length ds = omega (arith, length-map ds come_on) in
-    age_means c k (get_or ds k blank).work (well.works k i).0 n _ (tracked ds well c k i n calm)
+    age_means c k (get_or ds k blank).work (well.works k blank i).0 n _ (tracked ds well c k i n calm)
 
 -- equal books stay equal under equal answers
 books_equal : (c d : Course) (rs : List Row) → ((n : ℕ) → c n ≡ d n) → (n : ℕ) → books_at c rs n ≡ books_at d rs n

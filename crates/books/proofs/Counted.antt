@@ -5,19 +5,19 @@ use Rattle.policy.specs.Course.{Course, names}
 use Rattle.readings.specs.declared.reading.Reading.{Reading}
 use Rattle.books.specs.declared.row.Job.{Job}
 use Rattle.books.specs.declared.row.Row.{Row}
-use Rattle.books.specs.Ages.{AgeMeans, Samples, ShownSince, Unfinished, runs}
+use Rattle.books.specs.Ages.{AgeMeans, Samples, ShownSince, Unfinished, run_count}
 use Rattle.books.specs.Rows.{closed, come_on, grown, has_work, opened, ran}
-use Rattle.books.specs.Slots.{sampled, turned}
+use Rattle.books.specs.Slots.{sampled, row_after}
 
 -- a row through a slot, by whether it is sampled and whether it is run
-abbrev turn_of : Bool → Bool → Row → Row
-turn_of samp run r = closed (grown (cond run (ran (cond samp (opened r) r)) (cond samp (opened r) r)))
+abbrev after_by : Bool → Bool → Row → Row
+after_by samp run r = closed (grown (cond run (ran (cond samp (opened r) r)) (cond samp (opened r) r)))
 
 module _ (c : Course) (k w : ℕ) (some_work : 0 < w) where
-  run_count : (s n : ℕ) (b : Bool) → s ≤ n → eqb (c n).1 (k + 1) ≡ b → runs c k s (n + 1) ≡ runs c k s n + cond b 1 0
-  run_count s n b h e = rw (add-one, le-leb s n h, e)
+  run_step : (s n : ℕ) (b : Bool) → s ≤ n → eqb (c n).1 (k + 1) ≡ b → run_count c k s (n + 1) ≡ run_count c k s n + cond b 1 0
+  run_step s n b h e = rw (add-one, le-leb s n h, e)
 
-  run_none : (s n : ℕ) → n ≤ s → runs c k s n ≡ 0
+  run_none : (s n : ℕ) → n ≤ s → run_count c k s n ≡ 0
   run_none s zero h = refl
   run_none s (suc n) h = let i = run_none s n (omega arith) in rw (lt-leb s n (omega arith)) (omega arith)
 
@@ -32,7 +32,7 @@ module _ (c : Course) (k w : ℕ) (some_work : 0 < w) where
     pub past : sample < n
     pub ago : sample + j.age ≡ n
     pub sampled : Samples c k sample
-    pub done : runs c k sample n + j.left ≡ w
+    pub done : run_count c k sample n + j.left ≡ w
     pub only : (u : ℕ) → b ≤ u → u < n → Samples c k u → u ≡ sample
 
   abbrev pub Jobs : ℕ → ℕ → Option Job → Type 0
@@ -49,7 +49,7 @@ module _ (c : Course) (k w : ℕ) (some_work : 0 < w) where
     pub after : sample ≤ finish
     pub before : finish < n
     pub last : (c finish).1 ≡ k + 1
-    pub work : runs c k sample (finish + 1) ≡ w
+    pub work : run_count c k sample (finish + 1) ≡ w
 
   abbrev pub Values : ℕ → ℕ → Bool → ℕ → Type 0
   Values b n true age = Value b n age
@@ -97,7 +97,7 @@ module _ (c : Course) (k w : ℕ) (some_work : 0 < w) where
   opens : (b n left : ℕ) (run : Bool) → b ≤ n → NoSample b n → names (c n).0 k ≡ true → eqb (c n).1 (k + 1) ≡ run → left + cond run 1 0 ≡ w
       → Working b (n + 1) (record { age = 0 + 1; left = left })
   opens b n left run h none here e l =
-      let m = run_count n n run (omega arith) e in
+      let m = run_step n n run (omega arith) e in
       let z = run_none n n (omega arith) in
       record {
         sample = n;
@@ -113,7 +113,7 @@ module _ (c : Course) (k w : ℕ) (some_work : 0 < w) where
   goes_on : (b n : ℕ) (j : Job) (left : ℕ) (run : Bool) → Working b n j → names (c n).0 k ≡ false → eqb (c n).1 (k + 1) ≡ run → left + cond run 1 0 ≡ j.left
       → Working b (n + 1) (record { age = j.age + 1; left = left })
   goes_on b n j left run g here e l =
-      let m = run_count g.sample n run (omega arith) e in
+      let m = run_step g.sample n run (omega arith) e in
       record {
         sample = g.sample;
         later = g.later;
@@ -128,7 +128,7 @@ module _ (c : Course) (k w : ℕ) (some_work : 0 < w) where
       → (samp run : Bool) → names (c n).0 k ≡ samp → eqb (c n).1 (k + 1) ≡ run
       → (samp ≡ true → is_some o ≡ false)
       → (run ≡ true → has_work (cond samp (opened (record { reading = rd; shown = shown; age = age; job = o })) (record { reading = rd; shown = shown; age = age; job = o })).job ≡ true)
-      → Tracks (n + 1) (turn_of samp run (record { reading = rd; shown = shown; age = age; job = o }))
+      → Tracks (n + 1) (after_by samp run (record { reading = rd; shown = shown; age = age; job = o }))
   step n b rd shown age None e v g false false s r closed' works =
       record { work = e; bound = b; value = value_on b n age shown v; job = no_sample_on b n g s }
   step n b rd shown age None e v g false true s r closed' works = absurd (both_ways false refl (works refl))
@@ -147,7 +147,7 @@ module _ (c : Course) (k w : ℕ) (some_work : 0 < w) where
       (goes_on b n j (j.left - 1) true g.0 s r (omega (arith, g.1))) (λ z. eqb-true (c n).1 (k + 1) r)
 
   pub tracks_on : (n : ℕ) (r : Row) → Tracks n r → (names (c n).0 k ≡ true → is_some r.job ≡ false)
-      → (eqb (c n).1 (k + 1) ≡ true → has_work (sampled (c n) k r).job ≡ true) → Tracks (n + 1) (turned (c n) k r)
+      → (eqb (c n).1 (k + 1) ≡ true → has_work (sampled (c n).0 k r).job ≡ true) → Tracks (n + 1) (row_after (c n) k r)
   tracks_on n r t closed' works =
       step n t.bound r.reading r.shown r.age r.job t.work t.value t.job (names (c n).0 k) (eqb (c n).1 (k + 1)) refl refl closed' works
 
@@ -158,7 +158,7 @@ module _ (c : Course) (k w : ℕ) (some_work : 0 < w) where
       let e = g.0.only u h l s in
       let d = g.0.done in
       let m = g.1 in
-      subst (λ (v : ℕ). runs c k v n < w) (sym e) (omega arith)
+      subst (λ (v : ℕ). run_count c k v n < w) (sym e) (omega arith)
 
   means : (b n age : ℕ) (shown : Bool) (o : Option Job) → Values b n shown age → Jobs b n o
       → MatchBool shown (ShownSince c k w n age) ((age ≡ n) × Unfinished c k w 0 n)

@@ -1,6 +1,7 @@
 -- A slot without a fault keeps books fresh.
 use Rattle.std.proofs.Common.{◌≡◌, ℕ, ◌+◌, ◌-◌, ◌<◌, ◌≤◌, Bool, true, false, cond, eqb, List, length, get_or, Some, None, Option, refl, ap, ◌∙◌, inl, inr, arith}
-use Rattle.std.proofs.lemmas.Bool.{cases_Bool, le-ltb, ltb-false}
+use Rattle.std.proofs.lemmas.Bool.{cases_Bool}
+use Rattle.std.proofs.lemmas.List.Elements.{All-from_get_or}
 use Rattle.policy.specs.Course.{Answer, names}
 use Rattle.readings.specs.declared.reading.Reading.{Reading}
 use Rattle.books.specs.declared.fault.Fault.{Fault}
@@ -8,11 +9,13 @@ use Rattle.books.specs.declared.row.Job.{Job}
 use Rattle.books.specs.declared.row.Row.{Row}
 use Rattle.books.specs.Fresh.{Fresh}
 use Rattle.books.specs.Rows.{blank_row, closed, closed_by, grown, job_age, opened, ran, stale}
-use Rattle.books.specs.Parts.{Spare, grown_fault}
-use Rattle.books.specs.Slots.{fault, judged, run_fault, sample_fault, sampled, slot, stale_fault, turned, worked}
+use Rattle.books.specs.Parts.{grown_fault}
+use Rattle.books.specs.Valid.{Spare, Valid, aged}
+use Rattle.books.specs.Slots.{fault, judged, run_fault, sample_fault, sampled, slot, stale_fault, row_after, worked}
 use Rattle.readings.specs.Firsts.{first_of}
 use Rattle.std.specs.Option.{option_or}
 use Rattle.books.proofs.Each.{get_or_each, length_each}
+use Rattle.books.proofs.Valids.{not_stale_valid, valid_not_stale}
 use Rattle.readings.proofs.Firsts.{first_clear, first_none, or_clear}
 
 -- what steps 1 and 2 leave of a row
@@ -40,7 +43,7 @@ running false r = same r
 pub work_keeps : (a : Answer) (k : ℕ) (r : Row) → WorkKeeps r (worked a k r)
 work_keeps a k r =
     let s = sampling (names a.0 k) r in
-    let w = running (eqb a.1 (k + 1)) (sampled a k r) in
+    let w = running (eqb a.1 (k + 1)) (sampled a.0 k r) in
     record { reading = w.reading ∙ s.reading; shown = w.shown ∙ s.shown; age = w.age ∙ s.age; job = omega arith }
 
 job_older : (r : Row) (o : Option Job) → r.job ≡ o → job_age (grown r).job ≤ job_age r.job + 1
@@ -66,8 +69,8 @@ pub close_keeps : (r : Row) → job_age r.job ≤ r.age → CloseKeeps r (closed
 close_keeps r h = closing r r.job refl h
 
 -- a row through a slot: its reading stays, and no age is above the one that was judged
-pub turn_keeps : (a : Answer) (k : ℕ) (r : Row) → job_age r.job ≤ r.age → CloseKeeps (judged a k r) (turned a k r)
-turn_keeps a k r h =
+pub row_after_keeps : (a : Answer) (k : ℕ) (r : Row) → job_age r.job ≤ r.age → CloseKeeps (judged a k r) (row_after a k r)
+row_after_keeps a k r h =
     let w = work_keeps a k r in
     let o = job_older (worked a k r) (worked a k r).job refl in
     close_keeps (judged a k r) (omega arith)
@@ -78,20 +81,20 @@ clear_flag false x e = refl
 
 -- a slot without a fault judges each row fresh
 pub judged_fresh : (a : Answer) (rs : List Row) → fault a rs ≡ None → (k : ℕ) → k < length rs
-    → (judged a k (get_or rs k blank_row)).age ≤ (judged a k (get_or rs k blank_row)).reading.validity
+    → Valid (judged a k (get_or rs k blank_row))
 judged_fresh a rs e k h =
-    let later = (or_clear (first_of (sample_fault a rs) 0 16) (option_or (run_fault a rs) (first_of (stale_fault a rs) 0 (length rs))) e).1 in
+    let later = (or_clear (first_of (sample_fault a.0 rs) 0 16) (option_or (run_fault a rs) (first_of (stale_fault a rs) 0 (length rs))) e).1 in
     let late = (or_clear (run_fault a rs) (first_of (stale_fault a rs) 0 (length rs)) later).1 in
     let clear : stale_fault a rs k ≡ None = first_clear (stale_fault a rs) 0 (length rs) late k (omega arith) (omega arith) in
     let r : Row = judged a k (get_or rs k blank_row) in
-    ltb-false r.reading.validity r.age (clear_flag (stale r) _ clear)
+    not_stale_valid r (clear_flag (stale r) _ clear)
 
 -- a row of the books after a slot
-pub slot_row : (a : Answer) (rs : List Row) (k : ℕ) → k < length rs → get_or (slot a rs) k blank_row ≡ turned a k (get_or rs k blank_row)
-slot_row a rs k h = get_or_each (turned a) rs k blank_row h
+pub slot_row : (a : Answer) (rs : List Row) (k : ℕ) → k < length rs → get_or (slot a rs) k blank_row ≡ row_after a k (get_or rs k blank_row)
+slot_row a rs k h = get_or_each (row_after a) rs k blank_row h
 
 pub slot_length : (a : Answer) (rs : List Row) → length (slot a rs) ≡ length rs
-slot_length a rs = length_each (turned a) 0 rs
+slot_length a rs = length_each (row_after a) 0 rs
 
 module _ (a : Answer) (rs : List Row) (f : Fresh rs) (calm : fault a rs ≡ None) (k : ℕ) (h : k < length (slot a rs)) where
   inside : k < length rs
@@ -100,27 +103,27 @@ module _ (a : Answer) (rs : List Row) (f : Fresh rs) (calm : fault a rs ≡ None
   kept_reading : (get_or (slot a rs) k blank_row).reading ≡ (get_or rs k blank_row).reading
   kept_reading =
       let r : Row = get_or rs k blank_row in
-      ap (λ (x : Row). x.reading) (slot_row a rs k inside) ∙ (turn_keeps a k r (f.jobs k inside)).reading ∙ (work_keeps a k r).reading
+      ap (λ (x : Row). x.reading) (slot_row a rs k inside) ∙ (row_after_keeps a k r (f.jobs k blank_row inside)).reading ∙ (work_keeps a k r).reading
 
   kept_validity : (get_or (slot a rs) k blank_row).reading.validity ≤ 4095
-  kept_validity = let v = f.validities k inside in let e = ap (λ (x : Reading). x.validity) kept_reading in omega arith
+  kept_validity = let v = f.validities k blank_row inside in let e = ap (λ (x : Reading). x.validity) kept_reading in omega arith
 
-  kept_age : (get_or (slot a rs) k blank_row).age ≤ (get_or (slot a rs) k blank_row).reading.validity
+  kept_age : Valid (get_or (slot a rs) k blank_row)
   kept_age =
       let r : Row = get_or rs k blank_row in
-      let t = (turn_keeps a k r (f.jobs k inside)).age in
+      let t = (row_after_keeps a k r (f.jobs k blank_row inside)).age in
       let j = judged_fresh a rs calm k inside in
       let w = ap (λ (x : Reading). x.validity) (work_keeps a k r).reading in
       let v = ap (λ (x : Reading). x.validity) kept_reading in
-      let e : (get_or (slot a rs) k blank_row).age ≡ (turned a k r).age = ap (λ (x : Row). x.age) (slot_row a rs k inside) in
+      let e : (get_or (slot a rs) k blank_row).age ≡ (row_after a k r).age = ap (λ (x : Row). x.age) (slot_row a rs k inside) in
       omega arith
 
   kept_job : job_age (get_or (slot a rs) k blank_row).job ≤ (get_or (slot a rs) k blank_row).age
   kept_job =
       let r : Row = get_or rs k blank_row in
-      let t = (turn_keeps a k r (f.jobs k inside)).job in
-      let e : (get_or (slot a rs) k blank_row).age ≡ (turned a k r).age = ap (λ (x : Row). x.age) (slot_row a rs k inside) in
-      let g : job_age (get_or (slot a rs) k blank_row).job ≡ job_age (turned a k r).job = ap (λ (x : Row). job_age x.job) (slot_row a rs k inside) in
+      let t = (row_after_keeps a k r (f.jobs k blank_row inside)).job in
+      let e : (get_or (slot a rs) k blank_row).age ≡ (row_after a k r).age = ap (λ (x : Row). x.age) (slot_row a rs k inside) in
+      let g : job_age (get_or (slot a rs) k blank_row).job ≡ job_age (row_after a k r).job = ap (λ (x : Row). job_age x.job) (slot_row a rs k inside) in
       omega arith
 
 -- a slot without a fault keeps books fresh
@@ -128,31 +131,28 @@ pub slot_fresh : (a : Answer) (rs : List Row) → Fresh rs → fault a rs ≡ No
 slot_fresh a rs f calm =
     record {
       few = let l = slot_length a rs in let n = f.few in omega arith;
-      validities = kept_validity a rs f calm;
-      ages = kept_age a rs f calm;
-      jobs = kept_job a rs f calm;
+      validities = All-from_get_or (λ r. r.reading.validity ≤ 4095) (slot a rs) blank_row (kept_validity a rs f calm);
+      ages = All-from_get_or Valid (slot a rs) blank_row (kept_age a rs f calm);
+      jobs = All-from_get_or (λ r. job_age r.job ≤ r.age) (slot a rs) blank_row (kept_job a rs f calm);
     }
-
--- fresh books are valid now
-pub fresh_spare : (rs : List Row) → Fresh rs → Spare rs 0
-fresh_spare rs f k h = let a = f.ages k h in omega arith
 
 -- where so many slots may pass, one less may after a slot
 pub slot_spare : (a : Answer) (rs : List Row) → Fresh rs → (n : ℕ) → Spare rs n → 0 < n → Spare (slot a rs) (n - 1)
-slot_spare a rs f n s p k h =
+slot_spare a rs f n s p =
+    All-from_get_or (λ r. Valid (aged (n - 1) r)) (slot a rs) blank_row (λ k h.
     let i : k < length rs = omega (arith, slot_length a rs) in
     let r : Row = get_or rs k blank_row in
-    let t = turn_keeps a k r (f.jobs k i) in
+    let t = row_after_keeps a k r (f.jobs k blank_row i) in
     let w = work_keeps a k r in
     let v = ap (λ (x : Reading). x.validity) (t.reading ∙ w.reading) in
-    let here = s k i in
-    rw (slot_row a rs k i) (omega arith)
+    let here = s k blank_row i in
+    rw (slot_row a rs k i) (omega arith))
 
 -- and none is stale in it
 pub spare_calm : (rs : List Row) (n : ℕ) → Spare rs n → 0 < n → None ≡ first_of (grown_fault rs) 0 (length rs)
 spare_calm rs n s p =
     first_none (grown_fault rs) 0 (length rs) (λ k h.
     let r : Row = get_or rs k blank_row in
-    let here = s k (omega arith) in
-    let e : stale (grown r) ≡ false = le-ltb r.reading.validity (r.age + 1) (omega arith) in
+    let here = s k blank_row (omega arith) in
+    let e : stale (grown r) ≡ false = valid_not_stale (grown r) (omega arith) in
     rw e)

@@ -8,4 +8,5 @@ pub mod Keeps
 mod Named
 pub mod RowRuns
 pub mod Sames
-mod Turns
+mod Takes
+pub mod Valids

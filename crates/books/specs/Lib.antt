@@ -1,4 +1,5 @@
 pub mod Rows
+pub mod Valid
 pub mod Faults
 pub mod Slots
 pub mod Parts

@@ -1,5 +1,5 @@
 -- What the parts of the code do that a slot is put together from.
-use Rattle.std.specs.Prelude.{ℕ, ◌+◌, ◌<◌, ◌≤◌, Bool, List, length, slice_index_or, Option}
+use Rattle.std.specs.Prelude.{ℕ, ◌+◌, ◌<◌, Bool, All, List, slice_index_or, Option}
 use Rattle.books.specs.declared.fault.Fault.{Fault}
 use Rattle.books.specs.declared.fault.Step.TheVariants.{Judge}
 use Rattle.books.specs.declared.row.Row.{Row}
@@ -13,14 +13,10 @@ passed k r = closed (grown r)
 abbrev pub finishes : ℕ → Row → Bool
 finishes k r = finished (grown r).job
 
--- a row whose age exceeds its validity once all ages have grown
+-- a row that is not valid once all ages have grown
 abbrev pub grown_fault : List Row → ℕ → Option Fault
 grown_fault rs k = row_fault Judge (grown (slice_index_or rs k blank_row)) (k + 1)
 
 -- ages that have room to grow in 16 bits
 abbrev pub Young : List Row → Type 0
-Young rs = (k : ℕ) → k < length rs → ((slice_index_or rs k blank_row).age < 65535) × (job_age (slice_index_or rs k blank_row).job < 65535)
-
--- so many slots may pass before any row is stale
-abbrev pub Spare : List Row → ℕ → Type 0
-Spare rs n = (k : ℕ) → k < length rs → (slice_index_or rs k blank_row).age + n ≤ (slice_index_or rs k blank_row).reading.validity
+Young rs = All (λ r. (r.age < 65535) × (job_age r.job < 65535)) rs

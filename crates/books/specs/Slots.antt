@@ -9,25 +9,25 @@ use Rattle.books.specs.declared.fault.Step.TheVariants.{Sample, Run, Judge}
 use Rattle.books.specs.declared.row.Row.{Row}
 use Rattle.books.specs.Rows.{blank_row, closed, finished, grown, opened, ran, row_fault}
 
--- step 1: row k + 1 is sampled if the answer names it
-abbrev pub sampled : Answer → ℕ → Row → Row
-sampled a k r = if names a.0 k then opened r else r
+-- step 1: row k + 1 is sampled if the mask of rows to sample names it
+abbrev pub sampled : ℕ → ℕ → Row → Row
+sampled m k r = if names m k then opened r else r
 
--- step 2: it is run if it is the row to run
-abbrev pub run : Answer → ℕ → Row → Row
-run a k r = if a.1 == k + 1 then ran r else r
+-- step 2: it is run if it is row n, the row to run
+abbrev pub run : ℕ → ℕ → Row → Row
+run n k r = if n == k + 1 then ran r else r
 
 -- row k + 1 after steps 1 and 2
 abbrev pub worked : Answer → ℕ → Row → Row
-worked a k r = run a k (sampled a k r)
+worked a k r = run a.1 k (sampled a.0 k r)
 
--- after step 3, when its age is judged
+-- after step 3, as its age is judged in step 4
 abbrev pub judged : Answer → ℕ → Row → Row
 judged a k r = grown (worked a k r)
 
--- after step 5
-abbrev pub turned : Answer → ℕ → Row → Row
-turned a k r = closed (judged a k r)
+-- row k + 1 after all five steps of a slot
+abbrev pub row_after : Answer → ℕ → Row → Row
+row_after a k r = closed (judged a k r)
 
 -- each row by its place, from row k + 1 on
 abbrev pub each_from : {X : Type 0} → (ℕ → X → X) → ℕ → List X → List X
@@ -40,7 +40,7 @@ judged_rows a rs = each_from (judged a) 0 rs
 
 -- the books after a slot: all rows through all five steps, faults or not
 abbrev pub slot : Answer → List Row → List Row
-slot a rs = each_from (turned a) 0 rs
+slot a rs = each_from (row_after a) 0 rs
 
 -- the lowest row, from row k + 1 on, that passes a test, if one does
 abbrev pub lowest_from : (ℕ → Row → Bool) → ℕ → List Row → Option ℕ
@@ -52,9 +52,9 @@ abbrev pub shown_row : Answer → List Row → Option ℕ
 shown_row a rs = lowest_from (λ k r. finished (judged a k r).job) 0 rs
 
 -- step 1: to sample a row with an open job, or a row that the list lacks
-abbrev pub sample_fault : Answer → List Row → ℕ → Option Fault
-sample_fault a rs k =
-    if not (names a.0 k) then None
+abbrev pub sample_fault : ℕ → List Row → ℕ → Option Fault
+sample_fault m rs k =
+    if not (names m k) then None
     else if nat_lt k (length rs) then row_fault Sample (slice_index_or rs k blank_row) (k + 1)
     else Some (JobRule (k + 1))
 
@@ -62,16 +62,20 @@ sample_fault a rs k =
 abbrev pub run_fault : Answer → List Row → Option Fault
 run_fault a rs =
     if a.1 == 0 then None
-    else if nat_le a.1 (length rs) then row_fault Run (sampled a (a.1 - 1) (slice_index_or rs (a.1 - 1) blank_row)) a.1
+    else if nat_le a.1 (length rs)
+    then row_fault Run (sampled a.0 (a.1 - 1) (slice_index_or rs (a.1 - 1) blank_row)) a.1
     else Some (JobRule a.1)
 
--- step 4: an age that exceeds the validity
+-- step 4: a row that is not valid
 abbrev pub stale_fault : Answer → List Row → ℕ → Option Fault
 stale_fault a rs k = row_fault Judge (judged a k (slice_index_or rs k blank_row)) (k + 1)
 
--- the first fault of a slot, in the order of its steps, lowest row first; an answer can name 16 rows
+-- the first fault of a slot, in the order of its steps, lowest row first; an answer can name 16
+-- rows
 abbrev pub fault : Answer → List Row → Option Fault
-fault a rs = option_or (first_of (sample_fault a rs) 0 16) (option_or (run_fault a rs) (first_of (stale_fault a rs) 0 (length rs)))
+fault a rs =
+    option_or (first_of (sample_fault a.0 rs) 0 16)
+    (option_or (run_fault a rs) (first_of (stale_fault a rs) 0 (length rs)))
 
 -- the books n slots ahead by a course
 abbrev pub books_at : Course → List Row → ℕ → List Row

@@ -1,34 +1,36 @@
-ghost use Rattle.std.specs.Prelude.{◌≡◌, ◌-◌, ◌<◌, ◌==◌};
+ghost use Rattle.std.specs.Prelude.{◌≡◌, ◌-◌, ◌<◌, ◌==◌, ◌↔◌, IsTrue};
 ghost use Rattle.books.specs.Rows.{closed, come_on, finished, grown, job_age, opened, ran, row_fault};
+ghost use Rattle.books.specs.Valid.{Valid, aged};
 ghost use Rattle.std.specs.Result.{result_err};
 ghost use Rattle.books.specs.declared.fault.Step.TheVariants.{Judge};
 
 use crate::fault::{Fault, Step};
-use readings::reading::Reading;
+use readings::Reading;
 
-// A job: one refresh of a row, from its sample on. Its age counts the slots since the sample, and the work
-// left the slots that it has yet to run.
+/// A job: one refresh of a row, from its sample on.
 #[derive(Clone, Copy, PartialEq, Eq, Debug)]
 pub struct Job {
+    /// The slots since the sample.
     pub age: u16,
+    /// The work left: the slots that the job has yet to run.
     pub left: u8,
 }
 
-// What the books keep of a row: its reading, whether a value is on show, the row's age, and its open job.
-// The age counts the slots since the sample of the value on show or, with none, since the row came on. That ages have
-// room to grow is asked where they grow and is no fact of the type: its fields are public, and any number may stand there.
+/// What the books keep of a row.
 #[derive(Clone, Copy, PartialEq, Eq, Debug)]
 pub struct Row {
-    // the first field, since two rows are told apart by their ages most often
+    /// The slots since the sample of the value on show or, with none, since the row came on.
     pub age: u16,
+    /// The open job, if there is one.
     pub job: Option<Job>,
-    // no `Option` of an age: the age counts without a value too
+    /// Whether a value is on show.
     pub shown: bool,
+    /// The row's reading: id, work length and validity.
     pub reading: Reading,
 }
 
 impl Row {
-    // A row as it comes on: no value, age 0, no job.
+    /// A row as it comes on: no value on show, age 0, no job.
     pub fn new(reading: &Reading) -> Row
         ensures { result ≡ come_on reading.now }
     {
@@ -40,8 +42,15 @@ impl Row {
         }
     }
 
-    // Refuses the row, number `row`, for what is wrong with it in a step of a slot: one match with guards for the three
-    // steps in which a row may be at fault.
+    /// Whether the row is valid once so many slots have passed: its age, grown by them, is at most
+    /// its validity.
+    pub fn is_valid_after(&self, slots: u16) -> bool
+        ensures { IsTrue result ↔ Valid (aged slots self.now) }
+    {
+        u32::from(self.age) + u32::from(slots) <= u32::from(self.reading.validity)
+    }
+
+    // Refuses the row, number `row`, for what is wrong with it in a step of a slot.
     pub(crate) fn check(&self, step: Step, row: u8) -> Result<(), Fault>
         ensures { result_err result ≡ row_fault step self.now row }
     {
@@ -49,25 +58,26 @@ impl Row {
             (Step::Sample, Some(_)) => Err(Fault::JobRule { row }),
             (Step::Run, None) => Err(Fault::JobRule { row }),
             (Step::Run, Some(job)) if job.left == 0 => Err(Fault::JobRule { row }),
-            (Step::Judge, _) if self.age > self.reading.validity => Err(Fault::Stale { row }),
+            (Step::Judge, _) if !self.is_valid_after(0) => Err(Fault::Stale { row }),
             _ => Ok(()),
         }
     }
 
-    // Refuses the row if it is stale once a slot more has passed.
+    // Refuses the row, number `row`, if it is not valid once a slot more has passed.
     pub(crate) fn check_next(&self, row: u8) -> Result<(), Fault>
-        requires age { self.now.age < 65535 }
-        requires job { job_age self.now.job < 65535 }
         ensures { result_err result ≡ row_fault Judge (grown self.now) row }
     {
-        let mut later = *self;
-        later.grow();
-        later.check(Step::Judge, row)
+        if self.is_valid_after(1) {
+            Ok(())
+        } else {
+            Err(Fault::Stale { row })
+        }
     }
 
-    // The slots for which the row stays valid: none where its age is past its validity.
+    // The slots for which the row stays valid: 0 where its age is past its validity.
     pub(crate) fn margin(&self) -> u16
-        ensures { result ≡ self.now.reading.validity - self.now.age }
+        ensures value { result ≡ self.now.reading.validity - self.now.age }
+        ensures valid { Valid self.now → Valid (aged result self.now) }
     {
         self.reading.validity.saturating_sub(self.age)
     }
@@ -98,7 +108,7 @@ impl Row {
         }
     }
 
-    // Lets a slot pass.
+    // Lets a slot pass: all ages grow by one.
     pub(crate) fn grow(&mut self)
         requires age { self.old.age < 65535 }
         requires job { job_age self.old.job < 65535 }
@@ -110,11 +120,11 @@ impl Row {
         }
     }
 
-    // Closes a job without work left, and says whether there was one: its value goes on show, and its age
-    // becomes the row's.
+    // Closes a job without work left, and says whether there was one: its value goes on show, and
+    // its age becomes the row's.
     pub(crate) fn close(&mut self) -> bool
-        ensures told { result ≡ finished self.old.job }
-        ensures done { self.new ≡ closed self.old }
+        ensures value { result ≡ finished self.old.job }
+        ensures after { self.new ≡ closed self.old }
     {
         match self.job {
             Some(job) if job.left == 0 => {

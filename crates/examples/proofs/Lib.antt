@@ -1,6 +1,6 @@
+mod Contents
 mod Gives
 mod Only
 mod Periods
 mod Running
-mod Told
 mod Walked

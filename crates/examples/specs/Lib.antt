@@ -1,4 +1,5 @@
-pub mod Given
+pub mod Endings
 pub mod Kinds
-pub mod Made
+pub mod Lists
+pub mod Rules
 pub mod Runs

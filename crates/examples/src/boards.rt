@@ -1,102 +1,113 @@
-use crate::plans::Plans;
+use crate::candidates::Candidates;
+use crate::exchange::Exchange;
 use crate::runs;
-use crate::turn::{Answered, Turn};
-use crate::verdict::Verdict;
+use crate::written::{AsExpected, WrittenReply};
 use anyhow::anyhow;
-use board::board::Board;
-use board::call::{Call, Reply};
-use policy::policy::Policy;
-use readings::refusal::Refusal;
+use board::Board;
+use board::call::{Call, Grant};
+use policy::Policy;
+use readings::Refusal;
 use std::alloc::{AllocError, Global};
 use std::io::Write;
 
 // Writes every run of a board.
 pub(crate) fn write_runs<W: Write>(out: &mut W, heap: Global) -> anyhow::Result<()> {
-    let plans = Plans::new().map_err(|refusal| anyhow!("a plan of the runs: {refusal}"))?;
-    write_run(out, heap, "X by More-Less", &runs::day(&plans))?;
-    write_kinds(out, heap, &plans)?;
-    write_crossings(out, heap, &plans)?;
+    let candidates = Candidates::new().map_err(|refusal| anyhow!(
+        "a candidate of the runs: {refusal}"
+    ))?;
+    write_run(out, heap, "X by More-Less", &runs::day(&candidates))?;
+    write_kinds(out, heap, &candidates)?;
+    write_crossings(out, heap, &candidates)?;
     write_run(
         out,
         heap,
         "a stop while a crossing waits, and further days",
-        &runs::further_days(&plans),
+        &runs::further_days(&candidates),
     )
 }
 
 // Writes the runs of other kinds of policy.
-fn write_kinds<W: Write>(out: &mut W, heap: Global, plans: &Plans) -> anyhow::Result<()> {
+fn write_kinds<W: Write>(out: &mut W, heap: Global, candidates: &Candidates) -> anyhow::Result<()> {
     write_run(
         out,
         heap,
         "a policy that never samples or runs",
-        &runs::asleep(plans),
+        &runs::inactive(candidates),
     )?;
     write_run(
         out,
         heap,
         "a comparison that always says no",
-        &runs::doubting(plans),
+        &runs::never_alike(candidates),
     )?;
     write_run(
         out,
         heap,
         "a bank of More-Less and a policy that never samples or runs",
-        &runs::bank(plans),
+        &runs::bank(candidates),
     )
 }
 
 // Writes the runs with a crossing.
-fn write_crossings<W: Write>(out: &mut W, heap: Global, plans: &Plans) -> anyhow::Result<()> {
+fn write_crossings<W: Write>(
+    out: &mut W,
+    heap: Global,
+    candidates: &Candidates,
+) -> anyhow::Result<()> {
     write_run(
         out,
         heap,
         "X crosses to W at once",
-        &runs::crossing_at_once(plans),
+        &runs::crossing_at_once(candidates),
     )?;
     write_run(
         out,
         heap,
         "X crosses to W in three ticks",
-        &runs::crossing_later(plans),
+        &runs::crossing_later(candidates),
     )?;
     write_run(
         out,
         heap,
         "X crosses to W in twelve ticks, and never to U",
-        &runs::crossing_late(plans),
+        &runs::crossing_late(candidates),
     )
 }
 
-// Asks a new board the calls of a run, and writes its title and then for each call what was asked, what was answered and
-// whether that is as expected.
+// Asks a new board the calls of a run, and writes its title and then for each call what was asked,
+// the reply and whether that is as expected.
 fn write_run<P: Policy, W: Write>(
     out: &mut W,
     heap: Global,
     title: &str,
-    turns: &[Turn<P>],
+    exchanges: &[Exchange<P>],
 ) -> anyhow::Result<()> {
-    let answers = answers_to(heap, turns)?;
+    let replies = replies_to(heap, exchanges)?;
     writeln!(out, "board: {title}")?;
-    for (turn, answer) in turns.iter().zip(answers.as_slice()) {
-        let verdict = Verdict(*answer == turn.expected);
-        writeln!(out, "  {}: {}: {verdict}", turn.ask, Answered(*answer))?;
+    for (exchange, reply) in exchanges.iter().zip(replies.as_slice()) {
+        let as_expected = AsExpected(*reply == exchange.expected);
+        writeln!(
+            out,
+            "  {}: {}: {as_expected}",
+            exchange.call,
+            WrittenReply(*reply)
+        )?;
     }
     Ok(())
 }
 
-// What a new board answers to the calls of a run.
-fn answers_to<P: Policy>(
+// What a new board replies to the calls of a run.
+fn replies_to<P: Policy>(
     heap: Global,
-    turns: &[Turn<P>],
-) -> Result<Vec<Result<Reply, Refusal>>, AllocError> {
+    exchanges: &[Exchange<P>],
+) -> Result<Vec<Result<Grant, Refusal>>, AllocError> {
     let mut calls: Vec<Call<P>> = Vec::new(heap);
-    for turn in turns {
-        calls.push(turn.ask.call())?;
+    for exchange in exchanges {
+        calls.push(exchange.call.call())?;
     }
-    // a refusal stands in each place until the board has answered
-    let mut answers = vec![in heap; Err(Refusal::Resting); turns.len()]?;
+    // a refusal stands in each place until the board has replied
+    let mut replies = vec![in heap; Err(Refusal::Resting); exchanges.len()]?;
     let mut board = Board::new();
-    board.ask_all(calls.as_slice(), answers.as_mut_slice());
-    Ok(answers)
+    board.ask_all(calls.as_slice(), replies.as_mut_slice());
+    Ok(replies)
 }

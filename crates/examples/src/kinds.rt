@@ -1,26 +1,17 @@
-ghost use Rattle.std.specs.Prelude.{true, false, refl};
-ghost use Rattle.examples.specs.Kinds.{never_alike};
+ghost use Rattle.examples.specs.Kinds.{inactive_meaning, never_alike_meaning};
 
-use policy::policy::Policy;
+use policy::Policy;
 
-// A kind of policy that never samples or runs a row.
+/// A kind of policy that never samples or runs a row.
 #[derive(Clone, Copy)]
-pub struct Asleep;
+pub struct Inactive;
 
-impl Policy for Asleep {
+impl Policy for Inactive {
     ghost Position = { Unit {0} };
 
     ghost position = { λ _. tt };
 
-    ghost course = { λ _ _. (0, 0) };
-
-    ghost next = { λ p. p };
-
-    ghost alike = { λ _ _. true };
-
-    ghost onward = { λ _ _. refl };
-
-    ghost agree = { λ _ _ _ _. refl };
+    ghost meaning = { inactive_meaning };
 
     fn step(&mut self) -> (u16, u8) {
         (0, 0)
@@ -35,24 +26,19 @@ impl Policy for Asleep {
     }
 }
 
-// A kind of policy that answers as another does, and whose comparison always says no.
+/// A kind of policy that answers as another does, and whose comparison always says no.
 #[derive(Drop)]
-pub struct Doubting<P>(pub P);
+pub struct NeverAlike<P>(
+    /// The other policy.
+    pub P,
+);
 
-impl<P: Policy> Policy for Doubting<P> {
-    ghost Position = { P.Policy.Position };
+impl<P: Policy> Policy for NeverAlike<P> {
+    ghost Position = { P.Position };
 
-    ghost position = { λ d. P.Policy.position d.0 };
+    ghost position = { λ d. P.position d.0 };
 
-    ghost course = { P.Policy.course };
-
-    ghost next = { P.Policy.next };
-
-    ghost alike = { λ _ _. false };
-
-    ghost onward = { P.Policy.onward };
-
-    ghost agree = { λ p q h n. never_alike (P.Policy.course p n) (P.Policy.course q n) h };
+    ghost meaning = { never_alike_meaning P.meaning };
 
     fn step(&mut self) -> (u16, u8) {
         self.0.step()
@@ -63,6 +49,6 @@ impl<P: Policy> Policy for Doubting<P> {
     }
 
     fn copy(&self) -> Self {
-        Doubting(self.0.copy())
+        NeverAlike(self.0.copy())
     }
 }

@@ -1,14 +1,13 @@
-ghost use Rattle.examples.specs.Given.{readings_u, readings_w, readings_x, readings_y, readings_z};
-ghost use Rattle.examples.specs.Made.{Makes};
+ghost use Rattle.examples.specs.Lists.{readings_u, readings_w, readings_x, readings_y, readings_z};
+ghost use Rattle.readings.specs.Lists.{rows_of};
+ghost use Rattle.std.specs.Prelude.{◌≡◌, IsOkAnd};
 
-use readings::list::Readings;
-use readings::reading::Proposal;
-use readings::refusal::Refusal;
+use readings::{Proposal, Readings, Refusal};
 
-// List X: work 1, 2, 2 and validities 5, 10, 20.
+/// List X: work 1, 2, 2 and validities 5, 10, 20 slots. Never refused.
 #[tactic(auto, unfolding(readings::specs::Firsts::first_of))]
 pub fn list_x() -> Result<Readings, Refusal>
-    ensures { Makes readings_x result }
+    ensures { IsOkAnd result (λ l. rows_of l ≡ readings_x) }
 {
     Readings::new(&[
         Proposal::new(7, 1, 5),
@@ -17,10 +16,10 @@ pub fn list_x() -> Result<Readings, Refusal>
     ])
 }
 
-// List Y: work 2, 2, 2 and validities 8, 10, 12. A function of its own and no parameter of one: each promises its rows.
+/// List Y: work 2, 2, 2 and validities 8, 10, 12 slots. Never refused.
 #[tactic(auto, unfolding(readings::specs::Firsts::first_of))]
 pub fn list_y() -> Result<Readings, Refusal>
-    ensures { Makes readings_y result }
+    ensures { IsOkAnd result (λ l. rows_of l ≡ readings_y) }
 {
     Readings::new(&[
         Proposal::new(7, 2, 8),
@@ -29,18 +28,18 @@ pub fn list_y() -> Result<Readings, Refusal>
     ])
 }
 
-// List Z: work 2, 3 and validities 6, 13.
+/// List Z: work 2, 3 and validities 6, 13 slots. Never refused.
 #[tactic(auto, unfolding(readings::specs::Firsts::first_of))]
 pub fn list_z() -> Result<Readings, Refusal>
-    ensures { Makes readings_z result }
+    ensures { IsOkAnd result (λ l. rows_of l ≡ readings_z) }
 {
     Readings::new(&[Proposal::new(7, 2, 6), Proposal::new(8, 3, 13)])
 }
 
-// List W: ids 7 and 9 of X with other validities, and 12 in place of 8.
+/// List W: ids 7 and 9 of X with other validities, and 12 in place of 8. Never refused.
 #[tactic(auto, unfolding(readings::specs::Firsts::first_of))]
 pub fn list_w() -> Result<Readings, Refusal>
-    ensures { Makes readings_w result }
+    ensures { IsOkAnd result (λ l. rows_of l ≡ readings_w) }
 {
     Readings::new(&[
         Proposal::new(7, 1, 6),
@@ -49,10 +48,11 @@ pub fn list_w() -> Result<Readings, Refusal>
     ])
 }
 
-// List U: id 9 of X alone. Its validity is below every age that X has it at while no job is open.
+/// List U: id 9 of X alone. Its validity is below every age that X has it at while no job is open.
+/// Never refused.
 #[tactic(auto, unfolding(readings::specs::Firsts::first_of))]
 pub fn list_u() -> Result<Readings, Refusal>
-    ensures { Makes readings_u result }
+    ensures { IsOkAnd result (λ l. rows_of l ≡ readings_u) }
 {
     Readings::new(&[Proposal::new(9, 2, 4)])
 }

@@ -1,25 +1,23 @@
-// Runs worked examples from start to end, then runs of a board and a script, and writes what was asked, what was answered
-// and whether that is as expected.
+//! Runs worked examples from start to end, then runs of a board and a script, and writes what was
+//! asked, what came and whether that is as expected.
 #![tactic(auto)]
 
-mod asked;
 mod boards;
+mod candidates;
 mod ending;
+mod example;
+mod exchange;
 mod kinds;
 mod lists;
-mod plans;
-mod refused;
 mod runs;
 mod script_run;
-mod turn;
-mod verdict;
+mod written;
 
-use asked::Asked;
 use boards::write_runs;
-use ending::Answer;
+use example::Example;
 use script_run::write_script;
 use std::io::{BufWriter, Write};
-use verdict::Verdict;
+use written::{AsExpected, WrittenEnding};
 
 fn main(rt: HostRuntime) -> anyhow::Result<()> {
     run(&rt)
@@ -27,11 +25,10 @@ fn main(rt: HostRuntime) -> anyhow::Result<()> {
 
 fn run(rt: &HostRuntime) -> anyhow::Result<()> {
     let mut out = BufWriter::new(rt.alloc(), rt.stdout())?;
-    for asked in Asked::ALL {
-        let answered = asked.answer();
-        let verdict = Verdict(answered == asked.expected());
-        let answer = Answer(answered);
-        writeln!(out, "{asked}: {answer}: {verdict}")?;
+    for example in Example::ALL {
+        let ending = example.ending();
+        let as_expected = AsExpected(ending == example.expected_ending());
+        writeln!(out, "{example}: {}: {as_expected}", WrittenEnding(ending))?;
     }
     write_runs(&mut out, rt.alloc())?;
     write_script(&mut out, rt.alloc())?;

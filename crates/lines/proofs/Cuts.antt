@@ -13,10 +13,13 @@ use Rattle.lines.specs.Pieces.{pieces}
 -- where no byte passes, the text is the one part
 pub one_part : (p : ℕ → Bool) (s : List ℕ) → position p s ≡ None → slice_split p s ≡ s ∷ []
 one_part p s h =
-    slice_split_none p s (All-from_get_or (λ b. p b ≡ false) s 0 (λ k lt. fails_before_first p s k 0 (grind (arith, nat_tests))))
+    slice_split_none p s (All-from_get_or (λ b. p b ≡ false) s 0
+    (λ k lt. fails_before_first p s k 0 (grind (arith, nat_tests))))
 
--- the first part ends before the first byte that passes, and the others are those of what lies behind it
-pub first_part : (p : ℕ → Bool) (s : List ℕ) (i : ℕ) → position p s ≡ Some i → slice_split p s ≡ take i s ∷ slice_split p (drop (i + 1) s)
+-- the first part ends before the first byte that passes, and the others are those of what lies
+-- behind it
+pub first_part : (p : ℕ → Bool) (s : List ℕ) (i : ℕ) → position p s ≡ Some i
+    → slice_split p s ≡ take i s ∷ slice_split p (drop (i + 1) s)
 first_part p s i h =
     let at = cond_some _ _ i h in
     let within : i < length s = grind (arith, nat_tests) in

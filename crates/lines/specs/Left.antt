@@ -5,20 +5,20 @@ use Rattle.lines.specs.declared.pieces.Pieces.{Pieces}
 use Rattle.lines.specs.Numeral.{numeral}
 use Rattle.lines.specs.Pieces.{pieces}
 
--- the pieces of what lies behind the last separator that was passed; none where nothing is left there
+-- the byte at which a text is cut
+abbrev pub separator_of : Pieces → ℕ
+separator_of p = p.separator
+
+-- the pieces of what lies behind the last separator that was passed; none where nothing is left
 abbrev pub left : Pieces → List (List ℕ)
 left p = option_map_or (λ rest. pieces p.separator rest.now) p.rest []
 
--- no piece is left
+-- whether no piece is left
 abbrev pub none_left : List (List ℕ) → Bool
 none_left [] = true
-none_left (w ∷ ws) = false
+none_left _ = false
 
--- the number that comes first, and the pieces behind it
+-- the number that comes first; none where the first piece is no number, or no piece is left
 abbrev pub first_number : List (List ℕ) → Option ℕ
 first_number [] = None
 first_number (w ∷ ws) = numeral w
-
-abbrev pub behind_first : List (List ℕ) → List (List ℕ)
-behind_first [] = []
-behind_first (w ∷ ws) = ws

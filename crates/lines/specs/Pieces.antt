@@ -2,6 +2,7 @@
 use Rattle.std.specs.Prelude.{ℕ, List, ◌==◌}
 use Rattle.std.specs.List.{slice_split}
 
--- the pieces before, between and behind the bytes of value `at`: one piece more than there are such bytes
+-- the pieces before, between and behind the bytes that are `separator`: one piece more than there
+-- are such bytes
 abbrev pub pieces : ℕ → List ℕ → List (List ℕ)
-pieces at text = slice_split (λ b. b == at) text
+pieces separator text = slice_split (λ b. b == separator) text

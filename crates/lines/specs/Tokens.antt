@@ -18,9 +18,9 @@ is_number (Number d) = true
 -- whether the first byte of a piece is a digit
 abbrev pub begins_with_digit : List ℕ → Bool
 begins_with_digit [] = false
-begins_with_digit (b ∷ bs) = is_ascii_digit b
+begins_with_digit (b ∷ _) = is_ascii_digit b
 
--- the value of a token: a word has none
-abbrev pub worth : Token → Option ℕ
-worth (Word w) = None
-worth (Number d) = numeral d.now
+-- the value of a token; none of a word
+abbrev pub number_of : Token → Option ℕ
+number_of (Word w) = None
+number_of (Number d) = numeral d.now

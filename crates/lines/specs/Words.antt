@@ -1,65 +1,63 @@
--- What a line says: its words, with one space between them, and the command that they make.
-use Rattle.std.specs.Prelude.{ℕ, if◌then◌else◌, List, [], ◌∷◌, length, Some, None, codes, Option, nat_le}
+-- What a line says: its pieces, with one space between them, and the command that they make.
+use Rattle.std.specs.Prelude.{ℕ, if◌then◌else◌, List, [], ◌∷◌, length, Some, None, codes, Option, nat_le, option_and_then, option_map}
+use Rattle.std.specs.Option.{option_or}
 use Rattle.std.specs.Str.{bytes_eq}
+use Rattle.lines.specs.declared.command.CallLine.{CallLine}
+use Rattle.lines.specs.declared.command.CallLine.TheVariants.{Start, Tick, Switch, Show, Stop}
 use Rattle.lines.specs.declared.command.Command.{Command}
-use Rattle.lines.specs.declared.command.Command.TheVariants.{Plan, Reading, Half, More, Start, Tick, Switch, Show, Stop}
+use Rattle.lines.specs.declared.command.Command.TheVariants.{Plan, Call}
+use Rattle.lines.specs.declared.command.PlanLine.{PlanLine}
+use Rattle.lines.specs.declared.command.PlanLine.TheVariants.{Begin, Reading, HalfHalf, MoreLess}
 use Rattle.lines.specs.Numeral.{numeral}
 use Rattle.lines.specs.Pieces.{pieces}
 
--- a command that stands alone on its line
-abbrev pub alone : Command → List (List ℕ) → Option Command
-alone c [] = Some c
-alone c (w ∷ ws) = None
+-- a line with no piece left behind it
+abbrev pub line_alone : {L : Type 0} → L → List (List ℕ) → Option L
+line_alone line [] = Some line
+line_alone line _ = None
 
--- a command made of one, two or three numbers; none where one is missing
-abbrev pub of_one : (ℕ → Command) → Option ℕ → Option Command
-of_one make None = None
-of_one make (Some a) = Some (make a)
+-- a line made of the one number that is left
+abbrev pub line_of_one : {L : Type 0} → (ℕ → L) → List (List ℕ) → Option L
+line_of_one make [] = None
+line_of_one make (w ∷ ws) = option_and_then (λ n. line_alone (make n) ws) (numeral w)
 
-abbrev pub of_two : (ℕ → ℕ → Command) → Option ℕ → Option ℕ → Option Command
-of_two make None b = None
-of_two make (Some a) b = of_one (make a) b
+-- a line made of the two numbers that are left
+abbrev pub line_of_two : {L : Type 0} → (ℕ → ℕ → L) → List (List ℕ) → Option L
+line_of_two make [] = None
+line_of_two make (w ∷ ws) = option_and_then (λ n. line_of_one (make n) ws) (numeral w)
 
-abbrev pub of_three : (ℕ → ℕ → ℕ → Command) → Option ℕ → Option ℕ → Option ℕ → Option Command
-of_three make None b c = None
-of_three make (Some a) b c = of_two (make a) b c
+-- a line made of the three numbers that are left
+abbrev pub line_of_three : {L : Type 0} → (ℕ → ℕ → ℕ → L) → List (List ℕ) → Option L
+line_of_three make [] = None
+line_of_three make (w ∷ ws) = option_and_then (λ n. line_of_two (make n) ws) (numeral w)
 
--- one number and nothing behind it
-abbrev pub one : (ℕ → Command) → List (List ℕ) → Option Command
-one make [] = None
-one make (a ∷ []) = of_one make (numeral a)
-one make (a ∷ w ∷ ws) = None
-
--- two numbers and nothing behind them
-abbrev pub two : (ℕ → ℕ → Command) → List (List ℕ) → Option Command
-two make [] = None
-two make (a ∷ []) = None
-two make (a ∷ b ∷ []) = of_two make (numeral a) (numeral b)
-two make (a ∷ b ∷ w ∷ ws) = None
-
--- three numbers and nothing behind them
-abbrev pub three : (ℕ → ℕ → ℕ → Command) → List (List ℕ) → Option Command
-three make [] = None
-three make (a ∷ []) = None
-three make (a ∷ b ∷ []) = None
-three make (a ∷ b ∷ c ∷ []) = of_three make (numeral a) (numeral b) (numeral c)
-three make (a ∷ b ∷ c ∷ w ∷ ws) = None
-
--- the command that the first word names, with what has to stand behind it
-abbrev pub said : List (List ℕ) → Option Command
-said [] = None
-said (w ∷ ws) =
-    if bytes_eq w (codes "plan") then alone Plan ws
-    else if bytes_eq w (codes "reading") then three Reading ws
-    else if bytes_eq w (codes "half") then alone Half ws
-    else if bytes_eq w (codes "more") then alone More ws
-    else if bytes_eq w (codes "start") then one Start ws
-    else if bytes_eq w (codes "tick") then one Tick ws
-    else if bytes_eq w (codes "switch") then two Switch ws
-    else if bytes_eq w (codes "show") then one Show ws
-    else if bytes_eq w (codes "stop") then alone Stop ws
+-- the line of a plan that a word and the pieces behind it make
+abbrev pub plan_line : List ℕ → List (List ℕ) → Option PlanLine
+plan_line word behind =
+    if bytes_eq word (codes "plan") then line_alone Begin behind
+    else if bytes_eq word (codes "reading") then line_of_three Reading behind
+    else if bytes_eq word (codes "half") then line_alone HalfHalf behind
+    else if bytes_eq word (codes "more") then line_alone MoreLess behind
     else None
 
--- the command of a line, given without the byte that ends it; none where it is malformed or has more than 80 bytes
+-- the call of the board that a word and the pieces behind it make
+abbrev pub call_line : List ℕ → List (List ℕ) → Option CallLine
+call_line word behind =
+    if bytes_eq word (codes "start") then line_of_one Start behind
+    else if bytes_eq word (codes "tick") then line_of_one Tick behind
+    else if bytes_eq word (codes "switch") then line_of_two Switch behind
+    else if bytes_eq word (codes "show") then line_of_one Show behind
+    else if bytes_eq word (codes "stop") then line_alone Stop behind
+    else None
+
+-- the command that pieces make, the first of them its word
+abbrev pub command_of_pieces : List (List ℕ) → Option Command
+command_of_pieces [] = None
+command_of_pieces (word ∷ behind) =
+    option_or (option_map Plan (plan_line word behind)) (option_map Call (call_line word behind))
+
+-- the command of a line, given without the byte that ends it; none where it is malformed or has
+-- more than 80 bytes
 abbrev pub command_of : List ℕ → Option Command
-command_of line = if nat_le (length line) 80 then said (pieces 32 line) else None
+command_of line =
+    if nat_le (length line) 80 then command_of_pieces (pieces 32 line) else None

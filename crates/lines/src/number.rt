@@ -1,11 +1,10 @@
-// Decimal numbers of 1 to 5 digits.
 ghost use Rattle.std.specs.Prelude.{◌≡◌, ◌≤◌, length};
 ghost use Rattle.lines.specs.Numeral.{decimal, numeral};
 
+// The most digits that a number may have.
 const MOST_DIGITS: usize = 5;
 
-// The value of 1 to 5 digits, leading zeros among them, of at most 65,535; none of anything else. Not by `parse`,
-// which takes a sign, and any number of zeros in front.
+/// The value of 1 to 5 digits, leading zeros among them, of at most 65,535; none of anything else.
 pub fn number(digits: &[u8]) -> Option<u16>
     ensures { result ≡ numeral digits.now }
 {
@@ -21,7 +20,6 @@ fn decimal(digits: &[u8]) -> Option<u32>
     requires { length digits.now ≤ 5 }
     ensures { result ≡ decimal 0 digits.now }
 {
-    // a `for`, since a closure of `try_fold` would know no bound on the value so far
     let mut value = 0;
     for byte in digits {
         value = value * 10 + char::from(*byte).to_digit(10)?;

@@ -1,7 +1,7 @@
 mod Lowest
 mod Masks
-mod Phases
 mod Played
 mod Runs
 mod Samples
 mod Steps
+mod Until

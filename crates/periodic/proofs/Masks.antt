@@ -2,20 +2,20 @@
 use Rattle.std.proofs.Common.{◌≡◌, ℕ, zero, suc, ◌+◌, ◌*◌, ◌/◌, ◌%◌, ◌^◌, ◌<◌, ◌≤◌, cond, List, [], ◌∷◌, length, get_or, ap, ◌∙◌, mod-eq_of_lt, one-mul, pow-suc, zero-add, div-one, arith, pow_mono}
 use native.Mathlib.Nat.{add-mul-div_left, add-mul-mod_self_left, div-div-eq-div-mul, div-eq_of_lt, pow-succ'}
 use Rattle.std.proofs.lemmas.Bool.Decides.{nat_tests}
-use Rattle.periodic.specs.declared.row.Row.{Row}
+use Rattle.periodic.specs.declared.phase.Phase.{Phase}
 use Rattle.policy.specs.Course.{names}
-use Rattle.periodic.specs.Rows.{blank_row, due, mask}
+use Rattle.periodic.specs.Phases.{blank_phase, due, mask}
 
-bit_small : (r : Row) → cond (due r) 1 0 ≤ 1
+bit_small : (r : Phase) → cond (due r) 1 0 ≤ 1
 bit_small r = grind (arith, nat_tests)
 
 -- a mask has no bit past the last row
-pub mask_small : (rs : List Row) → mask rs < 2 ^ length rs
+pub mask_small : (rs : List Phase) → mask rs < 2 ^ length rs
 mask_small [] = omega arith
 mask_small (r ∷ rs) = let b = bit_small r in let s = mask_small rs in rw pow-suc (omega arith)
 
 -- a mask of 16 rows at most fits 16 bits
-pub mask_fits : (rs : List Row) → length rs ≤ 16 → mask rs < 65536
+pub mask_fits : (rs : List Phase) → length rs ≤ 16 → mask rs < 65536
 mask_fits rs n =
     let s = mask_small rs in
     let m : 2 ^ length rs ≤ 2 ^ 16 = pow_mono {i = length rs} {j = 16} n in
@@ -37,7 +37,7 @@ high_bits b m k h =
     rw (pow-succ', ← div-div-eq-div-mul, half)
 
 -- the rows of a mask are those with a sample due
-pub names_mask : (rs : List Row) (k : ℕ) → k < length rs → names (mask rs) k ≡ due (get_or rs k blank_row)
+pub names_mask : (rs : List Phase) (k : ℕ) → k < length rs → names (mask rs) k ≡ due (get_or rs k blank_phase)
 names_mask [] k h = absurd (omega arith)
 names_mask (r ∷ rs) zero h = rw (low_bit (cond (due r) 1 0) (mask rs) (bit_small r)) (grind (arith, nat_tests))
 names_mask (r ∷ rs) (suc k) h = rw (high_bits (cond (due r) 1 0) (mask rs) k (bit_small r)) (names_mask rs k (omega arith))

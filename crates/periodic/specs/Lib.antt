@@ -1,4 +1,5 @@
-pub mod Rows
+pub mod Phases
 pub mod Positions
 pub mod Plays
 pub mod Sames
+pub mod Meanings

@@ -1,8 +1,8 @@
--- The position of a periodic policy: what it keeps of its rows.
-use Rattle.std.specs.Prelude.{List}
-use Rattle.rows.specs.Held.{rows_of as held}
-use Rattle.periodic.specs.declared.row.Row.{Row}
+-- The position of a periodic policy: the phases of its rows.
+use Rattle.std.specs.Prelude.{List, take}
+use Rattle.periodic.specs.declared.phase.Phase.{Phase}
 use Rattle.periodic.specs.declared.periodic.Periodic.{Periodic}
 
-abbrev pub rows_of : Periodic → List Row
-rows_of p = held p.rows
+-- the phases, first to last
+abbrev pub phases_of : Periodic → List Phase
+phases_of p = take p.count p.phases

@@ -1,10 +1,10 @@
--- Rows that compare yes are equal.
+-- Phases that compare yes are equal.
 use Rattle.std.specs.Prelude.{◌≡◌, true, List, refl}
 use Rattle.std.proofs.Common.{Decides, ap, sym, ◌∙◌}
 use Rattle.std.proofs.lemmas.Bool.{and_from, and_parts, eq-eqb, eqb-true}
 use Rattle.std.proofs.lemmas.Slice.Eq.{slice_eq-Decides}
-use Rattle.periodic.specs.declared.row.Row.{Row}
-use Rattle.periodic.specs.Rows.{same_row, same_rows, same_timing}
+use Rattle.periodic.specs.declared.phase.Phase.{Phase}
+use Rattle.periodic.specs.Phases.{same_phase, same_phases, same_timing}
 use Rattle.planner.specs.declared.timing.Timing.{Timing}
 
 timing_from_same : (t u : Timing) → same_timing t u ≡ true → t ≡ u
@@ -12,29 +12,36 @@ timing_from_same t u h =
     let p = and_parts _ _ h in
     let e = eqb-true t.work u.work p.0 in
     let f = eqb-true t.period u.period p.1 in
-    let same : ◌≡◌ {A = Timing} (record { work = t.work; period = t.period }) (record { work = u.work; period = u.period }) = cc in
+    let same : ◌≡◌ {A = Timing}
+    (record { work = t.work; period = t.period }) (record { work = u.work; period = u.period })
+    = cc in
     same
 
-row_from_same : (a b : Row) → same_row a b ≡ true → a ≡ b
-row_from_same a b h =
+phase_from_same : (a b : Phase) → same_phase a b ≡ true → a ≡ b
+phase_from_same a b h =
     let t = and_parts _ _ h in
     let u = and_parts _ _ t.1 in
     let e = timing_from_same a.timing b.timing t.0 in
     let g = eqb-true a.until b.until u.0 in
     let i = eqb-true a.left b.left u.1 in
-    let same : ◌≡◌ {A = Row} (record { timing = a.timing; until = a.until; left = a.left }) (record { timing = b.timing; until = b.until; left = b.left }) = cc in
+    let same : ◌≡◌ {A = Phase}
+    (record { timing = a.timing; until = a.until; left = a.left })
+    (record { timing = b.timing; until = b.until; left = b.left })
+    = cc in
     same
 
-row_to_same : (a : Row) → same_row a a ≡ true
-row_to_same a =
-    and_from _ _ (and_from _ _ (eq-eqb a.timing.work _ refl) (eq-eqb a.timing.period _ refl)) (and_from _ _ (eq-eqb a.until _ refl) (eq-eqb a.left _ refl))
+phase_to_same : (a : Phase) → same_phase a a ≡ true
+phase_to_same a =
+    and_from _ _
+    (and_from _ _ (eq-eqb a.timing.work _ refl) (eq-eqb a.timing.period _ refl))
+    (and_from _ _ (eq-eqb a.until _ refl) (eq-eqb a.left _ refl))
 
-same_row_decides : (a b : Row) → Decides (same_row a b) (a ≡ b)
-same_row_decides a b = (row_from_same a b, λ e. ap (same_row a) (sym e) ∙ row_to_same a)
+same_phase_decides : (a b : Phase) → Decides (same_phase a b) (a ≡ b)
+same_phase_decides a b = (phase_from_same a b, λ e. ap (same_phase a) (sym e) ∙ phase_to_same a)
 
--- the comparison of rows says yes exactly when they are equal
-pub rows_decide : (xs ys : List Row) → Decides (same_rows xs ys) (xs ≡ ys)
-rows_decide xs ys = slice_eq-Decides same_row_decides xs ys (same_rows xs ys) refl
+-- the comparison says yes exactly when all phases are equal
+pub phases_decide : (xs ys : List Phase) → Decides (same_phases xs ys) (xs ≡ ys)
+phases_decide xs ys = slice_eq-Decides same_phase_decides xs ys (same_phases xs ys) refl
 
-pub rows_from_same : (xs ys : List Row) → same_rows xs ys ≡ true → xs ≡ ys
-rows_from_same xs ys = (rows_decide xs ys).0
+pub phases_from_same : (xs ys : List Phase) → same_phases xs ys ≡ true → xs ≡ ys
+phases_from_same xs ys = (phases_decide xs ys).0

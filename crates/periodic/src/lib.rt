@@ -1,5 +1,10 @@
-// The periodic kind of policy: each row is sampled every so many slots, and the lowest row with work left runs.
+//! The periodic kind of policy: each row is sampled every so many slots, and the lowest row with
+//! work left runs.
 #![tactic(auto)]
 
+/// The policy.
 pub mod periodic;
-pub mod row;
+/// What it keeps of a row.
+pub mod phase;
+
+pub use periodic::Periodic;

@@ -1,12 +1,13 @@
 -- Demand grows with the slots, and how large it gets.
 use Rattle.std.proofs.Common.{◌≡◌, ℕ, suc, ◌+◌, ◌*◌, ◌/◌, ◌%◌, ◌<◌, ◌≤◌, List, [], ◌∷◌, ap, inl, inr, mul-le-mul_right, mod-lt, add-mul, div-add-mod', arith}
 use Rattle.std.proofs.lemmas.Bool.{cases_order}
-use Rattle.planner.specs.Response.{demand, rounded_up}
+use Rattle.std.specs.Int.{div_ceil}
+use Rattle.planner.specs.Response.{demand}
 use Rattle.planner.specs.Timing.{Positive}
 use Rattle.planner.specs.declared.timing.Timing.{Timing}
 
 -- more slots, no fewer periods
-pub rounded_mono : (r s p : ℕ) → 1 ≤ p → r ≤ s → rounded_up r p ≤ rounded_up s p
+pub rounded_mono : (r s p : ℕ) → 1 ≤ p → r ≤ s → div_ceil r p ≤ div_ceil s p
 rounded_mono r s p h l =
     let a = div-add-mod' r p in
     let b = div-add-mod' s p in
@@ -24,6 +25,6 @@ rounded_mono r s p h l =
 pub demand_mono : (ts : List Timing) (r s : ℕ) → Positive ts → r ≤ s → demand ts r ≤ demand ts s
 demand_mono [] r s h l = omega arith
 demand_mono (t ∷ ts) r s h l =
-    let here : rounded_up r t.period * t.work ≤ rounded_up s t.period * t.work = mul-le-mul_right t.work (rounded_mono r s t.period (h 0 (omega arith)) l) in
-    let rest = demand_mono ts r s (λ k below. h (suc k) (omega arith)) l in
+    let here : div_ceil r t.period * t.work ≤ div_ceil s t.period * t.work = mul-le-mul_right t.work (rounded_mono r s t.period (h 0 t (omega arith)) l) in
+    let rest = demand_mono ts r s (λ k d below. h (suc k) d (omega arith)) l in
     omega arith

@@ -2,7 +2,7 @@
 use Rattle.std.proofs.Common.{◌≡◌, ℕ, ◌+◌, ◌/◌, ◌<◌, ◌≤◌, Bool, eqb, List, Some, None, Option, sym, inl, inr, arith, MatchOption}
 use Rattle.std.proofs.lemmas.Option.{MatchOption-at_some}
 use Rattle.std.proofs.lemmas.Bool.{cases_lt, eq-eqb, eqb-false, eqb-true, ne_eqb}
-use Rattle.planner.specs.Response.{NoResponse, Response, Settles, demand, response_time}
+use Rattle.planner.specs.Response.{NoResponseTime, IsResponseTime, Settles, demand, response_time}
 use Rattle.planner.specs.Timing.{Positive}
 use Rattle.planner.specs.declared.timing.Timing.{Timing}
 use Rattle.planner.proofs.Demand.{demand_mono}
@@ -38,11 +38,11 @@ module _ (above : List Timing) (work validity : ℕ) where
       sym (only_none settles (validity / 2) (response_time above work validity) (least_tells settles (validity / 2)) (λ j h. ne_eqb _ _ (before j (omega arith))))
 
   -- a response time is the least of all numbers that settle, and without one none within half of the validity does
-  pub response_tells : MatchOption (response_time above work validity) (NoResponse above work validity) (Response above work validity)
+  pub response_tells : MatchOption (response_time above work validity) (NoResponseTime above work validity) (IsResponseTime above work validity)
   unfolding settles
   response_tells = go (response_time above work validity) (least_tells settles (validity / 2))
     where
-      go : (o : Option ℕ) → Tells settles (validity / 2) o → MatchOption o (NoResponse above work validity) (Response above work validity)
+      go : (o : Option ℕ) → Tells settles (validity / 2) o → MatchOption o (NoResponseTime above work validity) (IsResponseTime above work validity)
       go (Some d) h = record {
         settles = eqb-true _ _ h.0;
         first = λ r e. elim (cases_lt r d) [ inl less ↦ absurd (eqb-false _ _ (h.2 r less) e) | inr more ↦ more ];
@@ -50,5 +50,5 @@ module _ (above : List Timing) (work validity : ℕ) where
       }
       go None h = λ r e. elim (cases_lt (validity / 2) r) [ inl large ↦ omega arith | inr small ↦ absurd (eqb-false _ _ (h r small) e) ]
 
-  pub response_is : (d : ℕ) → response_time above work validity ≡ Some d → Response above work validity d
-  response_is d e = MatchOption-at_some (NoResponse above work validity) (Response above work validity) d e response_tells
+  pub response_is : (d : ℕ) → response_time above work validity ≡ Some d → IsResponseTime above work validity d
+  response_is d e = MatchOption-at_some (NoResponseTime above work validity) (IsResponseTime above work validity) d e response_tells

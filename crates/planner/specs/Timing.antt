@@ -1,14 +1,14 @@
 -- How the rows of a list are refreshed.
-use Rattle.std.specs.Prelude.{ℕ, ◌<◌, ◌≤◌, List, length, slice_index_or}
+use Rattle.std.specs.Prelude.{◌≤◌, All, List, length}
 use Rattle.planner.specs.declared.timing.Timing.{Timing}
 
--- what stands past the last row
-abbrev pub blank : Timing
-blank = record { work = 0; period = 0 }
+-- a row with all numbers 0
+abbrev pub blank_timing : Timing
+blank_timing = record { work = 0; period = 0 }
 
 -- each row has a period
 abbrev pub Positive : List Timing → Type 0
-Positive ts = (k : ℕ) → k < length ts → 1 ≤ (slice_index_or ts k blank).period
+Positive = All (λ t. 1 ≤ t.period)
 
 -- the law of timings: 1 to 16 rows, each with a period
 pub record WellTimed (ts : List Timing) : Type 0 where

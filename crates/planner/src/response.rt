@@ -1,15 +1,13 @@
 ghost use Rattle.std.specs.Prelude.{◌≡◌, ◌*◌, ◌≤◌};
-ghost use Rattle.planner.specs.Response.{demand, response_time, taken_by};
+ghost use Rattle.planner.specs.Response.{demand, response_time, row_demand};
 ghost use Rattle.planner.specs.Timing.{Positive};
 ghost use Rattle.rows.specs.Held.{rows_of};
 
 use crate::timing::Timing;
-use readings::reading::Reading;
-use rows::rows::Rows;
+use readings::Reading;
+use rows::Rows;
 
-// The slots that the rows above take out of so many slots. That each has a period is asked and is no fact of `Timing`:
-// its fields are public, and a blank has the period 0. A `for`: that the closure of a chain with `sum` may be called at
-// each row found no proof.
+// The slots that the rows above take out of so many slots.
 fn demand(above: &Rows<Timing>, slots: u32) -> u32
     requires bounded { slots ≤ 2047 }
     requires positive { Positive (rows_of above.now) }
@@ -18,16 +16,16 @@ fn demand(above: &Rows<Timing>, slots: u32) -> u32
 {
     let mut taken = 0;
     for row in above.as_slice() {
-        taken += taken_by(row, slots);
+        taken += row_demand(row, slots);
     }
     taken
 }
 
 // The slots that a row takes out of so many slots: its work length once a period.
-fn taken_by(row: &Timing, slots: u32) -> u32
+fn row_demand(row: &Timing, slots: u32) -> u32
     requires bounded { slots ≤ 2047 }
     requires positive { 1 ≤ row.now.period }
-    ensures value { result ≡ taken_by row.now slots }
+    ensures value { result ≡ row_demand row.now slots }
     ensures bound { result ≤ 521985 }
 {
     slots.div_ceil(u32::from(row.period)) * u32::from(row.work)
@@ -37,7 +35,8 @@ fn taken_by(row: &Timing, slots: u32) -> u32
 pub(crate) fn response_time(above: &Rows<Timing>, reading: &Reading) -> Option<u16>
     requires bounded { reading.now.validity ≤ 4095 }
     requires positive { Positive (rows_of above.now) }
-    ensures { result ≡ response_time (rows_of above.now) reading.now.work reading.now.validity }
+    ensures { result
+        ≡ response_time (rows_of above.now) reading.now.work reading.now.validity }
 {
     let own = u32::from(reading.work);
     let most = u32::from(reading.validity / 2);

@@ -1,2 +1,3 @@
 mod Courses
 pub mod Stepping
+pub mod Filled

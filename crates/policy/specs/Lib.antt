@@ -1,3 +1,4 @@
 pub mod Course
-pub mod Banks
 pub mod BankLaws
+pub mod Banks
+pub mod Policies

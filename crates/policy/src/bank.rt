@@ -1,33 +1,44 @@
 ghost use Rattle.std.specs.Prelude.{ℕ};
-ghost use Rattle.policy.specs.Banks.{bank_alike, bank_course, bank_next};
-ghost use Rattle.policy.specs.BankLaws;
+ghost use Rattle.policy.specs.Banks.{bank_meaning};
 
 use crate::policy::Policy;
 
-// Two policies of any kinds, and a number that says which is used: 1 the first, any other the second.
+/// Two policies of any kinds, and a number that says which is used: 1 the first, any other the
+/// second. The course of a bank is that of the used policy, and a step moves only that one on.
 #[derive(Drop)]
 pub struct Bank<A, B> {
-    pub first: A,
-    pub second: B,
-    // a number and no enum, by the rule of a bank: any number may stand here, and two banks of different numbers never
-    // compare yes
-    pub used: u8,
+    first: A,
+    second: B,
+    used: u8,
+}
+
+impl<A: Policy, B: Policy> Bank<A, B> {
+    ghost use Rattle.std.specs.Prelude.{◌≡◌, ◌≢◌};
+    ghost use Rattle.policy.specs.Policies.{SameCourse, course_of};
+
+    /// A bank of these two policies that uses the first where `used` is 1, and else the second.
+    pub fn new(first: A, second: B, used: u8) -> Bank<A, B>
+        ensures uses_first { used ≡ 1
+            → SameCourse (course_of ⟦<Bank<A, B> as Policy>⟧ result) (course_of A.Policy first) }
+        ensures uses_second { used ≢ 1
+            → SameCourse (course_of ⟦<Bank<A, B> as Policy>⟧ result) (course_of B.Policy second) }
+        ensures position { ⟦<Bank<A, B> as Policy>⟧.position result
+            ≡ (A.position first, B.position second, used) }
+    {
+        Bank {
+            first,
+            second,
+            used,
+        }
+    }
 }
 
 impl<A: Policy, B: Policy> Policy for Bank<A, B> {
-    ghost Position = { A.Policy.Position × B.Policy.Position × ℕ };
+    ghost Position = { A.Position × B.Position × ℕ };
 
-    ghost position = { λ k. (A.Policy.position k.first, B.Policy.position k.second, k.used) };
+    ghost position = { λ k. (A.position k.first, B.position k.second, k.used) };
 
-    ghost course = { bank_course A.Policy.course B.Policy.course };
-
-    ghost next = { bank_next A.Policy.next B.Policy.next };
-
-    ghost alike = { bank_alike A.Policy.alike B.Policy.alike };
-
-    ghost onward = { λ k n. BankLaws.onward A.Policy.course B.Policy.course A.Policy.next B.Policy.next A.Policy.onward B.Policy.onward k n };
-
-    ghost agree = { λ x y h n. BankLaws.agree A.Policy.course B.Policy.course A.Policy.alike B.Policy.alike A.Policy.agree B.Policy.agree x y h n };
+    ghost meaning = { bank_meaning A.meaning B.meaning };
 
     fn step(&mut self) -> (u16, u8) {
         if self.used == 1 {

@@ -1,4 +1,4 @@
--- The first of what is found by number, as the first refusal among rows or the first fault among steps.
+-- The first of what is found by number, as the first refusal among rows.
 use Rattle.std.specs.Option.{option_or}
 use Rattle.std.specs.Prelude.{ℕ, zero, suc, ◌+◌, None, Option}
 

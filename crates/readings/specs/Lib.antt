@@ -1,4 +1,5 @@
 pub mod Refusals
 pub mod Firsts
 pub mod Ranges
+pub mod Proposals
 pub mod Lists

@@ -1,14 +1,11 @@
 -- What the rows of a list hold.
-use Rattle.std.specs.Prelude.{ℕ, ◌+◌, ◌<◌, ◌≤◌, Bool, true, ◌&&◌, List, [], ◌∷◌, length, slice_index_or, ◌==◌, ◌≢◌}
+use Rattle.std.specs.Prelude.{◌≤◌, ◌≢◌, All, AllPairs, List, length}
+use Rattle.std.specs.List.Sorted.{IsNonDecreasingBy}
 use Rattle.readings.specs.declared.reading.Reading.{Reading}
 
 -- what stands past the last row
 abbrev pub blank : Reading
 blank = record { id = 0; work = 0; validity = 0 }
-
-abbrev pub all_blank : List Reading → Bool
-all_blank [] = true
-all_blank (r ∷ rs) = r.id == 0 && (r.work == 0 && (r.validity == 0 && all_blank rs))
 
 -- an id is 1 to 65,535
 abbrev pub IdRange : Reading → Type 0
@@ -26,8 +23,8 @@ ValidityRange r = (2 ≤ r.validity) × (r.validity ≤ 4095) × (r.work ≤ r.v
 pub record WellMade (rs : List Reading) : Type 0 where
   pub some : 1 ≤ length rs
   pub few : length rs ≤ 16
-  pub ids : (k : ℕ) → k < length rs → IdRange (slice_index_or rs k blank)
-  pub works : (k : ℕ) → k < length rs → WorkRange (slice_index_or rs k blank)
-  pub validities : (k : ℕ) → k < length rs → ValidityRange (slice_index_or rs k blank)
-  pub apart : (j k : ℕ) → j < k → k < length rs → (slice_index_or rs j blank).id ≢ (slice_index_or rs k blank).id
-  pub ordered : (k : ℕ) → k + 1 < length rs → (slice_index_or rs k blank).validity ≤ (slice_index_or rs (k + 1) blank).validity
+  pub ids : All IdRange rs
+  pub works : All WorkRange rs
+  pub validities : All ValidityRange rs
+  pub apart : AllPairs (λ r s. r.id ≢ s.id) rs
+  pub ordered : IsNonDecreasingBy (λ r. r.validity) rs

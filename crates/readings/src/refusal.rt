@@ -1,65 +1,101 @@
-ghost use Rattle.readings.specs.Refusals.{number, told, written};
+ghost use Rattle.readings.specs.Refusals.{number, content, written};
 ghost use Rattle.std.specs.Prelude.{◌≡◌, Some};
 
 use std::fmt;
 
-// Why a call is refused, with what the refusal tells: rows count from 1, slots and blocks from 0.
+/// Why something is refused, and where. Rows count from 1; slots and blocks count from 0.
 #[derive(Clone, Copy, PartialEq, Eq, Debug)]
 pub enum Refusal {
-    // a list has no row, or more than 16
+    /// A list has no row, or more than 16.
     Count,
-    // a row's work or validity is out of range
-    Range { row: u8 },
-    // a row's id is out of range, or stands above already
-    Id { row: u8 },
-    // a row's validity is below that of the row above
-    Order { row: u8 },
-    // no response time within half of a row's validity
-    Response { row: u8 },
-    // a strip has no slot, or more than 32,767
+    /// A row's work length is not 1 to 255 slots, or its validity is not 2 to 4,095 slots, or is
+    /// below its work length.
+    Range {
+        /// The row, counted from 1.
+        row: u8,
+    },
+    /// A row's id is not 1 to 65,535, or a row above has it.
+    Id {
+        /// The row, counted from 1.
+        row: u8,
+    },
+    /// A row's validity is below that of the row above.
+    Order {
+        /// The row, counted from 1.
+        row: u8,
+    },
+    /// A row has no response time of at most half its validity.
+    Response {
+        /// The row, counted from 1.
+        row: u8,
+    },
+    /// A strip has no slot, or more than 32,767.
     StripLength,
-    // too few free slots for a row's first job
-    FirstJob { row: u8 },
-    // too few free slots for a later job of a row
-    NextJob { row: u8 },
-    // no repeat up to a strip's limit
+    /// A strip has too few free slots for the first job of a row.
+    FirstJob {
+        /// The row, counted from 1.
+        row: u8,
+    },
+    /// A strip has too few free slots for a later job of a row.
+    NextJob {
+        /// The row, counted from 1.
+        row: u8,
+    },
+    /// A strip does not repeat up to its limit.
     NoLoop,
-    // a strip from outside has numbers or slots out of range
+    /// A strip from outside has numbers or slots out of range.
     Outside,
-    // an answer breaks the job rule
-    JobRule { slot: u16, row: u8 },
-    // a row's age exceeds its validity
-    Stale { slot: u16, row: u8 },
-    // no repeat by the last instant of a walk
+    /// An answer breaks the job rule: it samples a row whose job is open, runs a row that has no
+    /// job with work left, or names a row that the list lacks.
+    JobRule {
+        /// The slot of the answer, counted from 0.
+        slot: u16,
+        /// The row, counted from 1.
+        row: u8,
+    },
+    /// A row's age exceeds its validity.
+    Stale {
+        /// The slot in which the age grew past it, counted from 0.
+        slot: u16,
+        /// The row, counted from 1.
+        row: u8,
+    },
+    /// A walk has neither a fault nor a repeat by its last instant, 32,767.
     NoRepeat,
-    // the board rests
+    /// The board rests, and the call is for one that runs.
     Resting,
-    // the board runs
+    /// The board runs, and the call is for one that rests.
     Running,
-    // a crossing waits
+    /// A crossing waits already.
     CrossingWaits,
-    // a latency is out of range
+    /// A latency exceeds 4,095 slots.
     Latency,
-    // no instant within the latency keeps every shared reading valid
+    /// At no instant within the latency would a crossing keep every shared reading valid.
     NoInstant,
-    // the list in use has no such id
+    /// The list in use has no reading of this id.
     UnknownId,
-    // a file's length
+    /// A show file has a length that no show file has.
     FileLength,
-    // a block's sum
-    BlockSum { block: u8 },
-    // a block's kind or number
-    BlockHead { block: u8 },
-    // a file's count of blocks, or a byte that is not 0
+    /// The sum of a block of a show file is not that of its bytes.
+    BlockSum {
+        /// The block, counted from 0.
+        block: u8,
+    },
+    /// The kind or the number of a block of a show file is not what comes there.
+    BlockHead {
+        /// The block, counted from 0.
+        block: u8,
+    },
+    /// A show file's count of blocks is not that of its blocks, or a byte past them is not 0.
     FileRest,
-    // a line is malformed, too long or out of place
-    Line,
-    // a plan is not ready or not there
-    Plan,
+    /// A line of a script is malformed, too long or out of place.
+    BadLine,
+    /// A plan that a line names is not there, or not ready.
+    NoPlan,
 }
 
 impl Refusal {
-    // The number of a refusal, 1 to 25. No `From`: the number is one part of what a refusal tells.
+    /// Its number, from 1 to 25: each case has its own.
     pub fn number(&self) -> u8
         ensures { result ≡ number self.now }
     {
@@ -87,15 +123,15 @@ impl Refusal {
             Refusal::BlockSum { .. } => 21,
             Refusal::BlockHead { .. } => 22,
             Refusal::FileRest => 23,
-            Refusal::Line => 24,
-            Refusal::Plan => 25,
+            Refusal::BadLine => 24,
+            Refusal::NoPlan => 25,
         }
     }
 }
 
 // `no` and the number, as an answer on a line has it.
 impl fmt::Display for Refusal {
-    ghost output = { λ r. Some (written (told r)) };
+    ghost output = { λ r. Some (written (content r)) };
 
     fn fmt<W: fmt::Write>(&self, f: &mut fmt::Formatter<W>) -> fmt::Result {
         let number = self.number();

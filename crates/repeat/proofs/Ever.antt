@@ -1,5 +1,5 @@
 -- After a repeat, what held up to it holds ever after.
-use Rattle.std.proofs.Common.{◌≡◌, ℕ, zero, suc, ◌+◌, ◌-◌, ◌<◌, true, None, sym, ap, ◌∙◌, subst, inl, inr, add-zero, add-suc, arith}
+use Rattle.std.proofs.Common.{◌≡◌, ℕ, zero, suc, ◌+◌, ◌-◌, ◌<◌, None, sym, ap, ◌∙◌, subst, inl, inr, add-zero, add-suc, arith}
 use Rattle.std.proofs.lemmas.Bool.{cases_lt}
 use Rattle.repeat.specs.Marks.{after, mark_of}
 use Rattle.repeat.specs.Finds.{RepeatFound, Stepping}
@@ -34,9 +34,9 @@ module _ {S A : Type 0} (shows : S → A) (next : S → S) (s : S) (m t : ℕ) (
   pub ever_shown : m < t → (P : A → Type 0) → ((n : ℕ) → n < t → P (shows (after next n s))) → (n : ℕ) → P (shows (after next n s))
   ever_shown below P held = ever (λ n. P (shows (after next n s))) m t below (λ k. subst P (sym (shown_again k))) held
 
-module _ {S F : Type 0} (steps : Stepping S F) (lasting : (s t : S) → steps.alike s t ≡ true → (n : ℕ) → steps.fault (after steps.next n s) ≡ steps.fault (after steps.next n t)) (s : S) (limit : ℕ) where
+module _ {S F : Type 0} (steps : Stepping S F) (s : S) (limit : ℕ) where
   -- after a repeat no step, however far ahead, meets a fault
-  pub ever_calm : (mark instant : ℕ) → RepeatFound steps s limit mark instant → (n : ℕ) → steps.fault (after steps.next n s) ≡ None
-  ever_calm mark instant f =
+  pub ever_faultless : (mark instant : ℕ) → RepeatFound steps s limit mark instant → (n : ℕ) → steps.fault (after steps.next n s) ≡ None
+  ever_faultless mark instant f =
       let below : mark_of instant < instant = omega arith in
-      ever_shown steps.fault steps.next s (mark_of instant) instant (lasting _ _ f.repeats) below (λ x. x ≡ None) f.calm
+      ever_shown steps.fault steps.next s (mark_of instant) instant (steps.lasting _ _ f.repeats) below (λ x. x ≡ None) f.faultless

@@ -1,5 +1,5 @@
 pub mod Ever
 pub mod Look
 pub mod Marks
-mod Turning
+mod UnderWay
 pub mod Unique

@@ -1,37 +1,37 @@
 -- The search as a function that can be computed, and that it finds what a search has to find.
 use Rattle.std.proofs.Common.{◌≡◌, ℕ, zero, suc, ◌+◌, Bool, true, false, Some, None, Ok, Err, Option, Result, refl, arith}
-use Rattle.repeat.proofs.Turning.{UnderWay, begins, fault_found, nowhere, onward, repeat_found}
+use Rattle.repeat.proofs.UnderWay.{UnderWay, begins, fault_found, nowhere, onward, repeat_found}
 use Rattle.repeat.specs.Finds.{Finds, Stepping}
-use Rattle.repeat.specs.Turns.{Turn, after_turn, search_from}
+use Rattle.repeat.specs.SearchStep.{StepEnds, after_step, search_from}
 use Rattle.repeat.specs.declared.found.NoRepeat.{NoRepeat}
 use Rattle.repeat.specs.declared.found.NoRepeat.TheVariants.{Fault, Nowhere}
 use Rattle.repeat.specs.declared.found.Repeat.{Repeat}
 use Rattle.repeat.specs.declared.search.Search.{Search}
 
--- how a turn ends, by its fault and its comparison
-abbrev pub turn_end : {F : Type 0} → Option F → Bool → (slot mark : ℕ) → Result (Option Repeat) (NoRepeat F)
-turn_end (Some met) again slot mark = Err (Fault slot met)
-turn_end None true slot mark = Ok (Some (record { mark = mark; instant = slot + 1 }))
-turn_end None false slot mark = Ok None
+-- how a search step ends, by its fault and its comparison
+abbrev pub step_end : {F : Type 0} → Option F → Bool → (slot mark : ℕ) → Result (Option Repeat) (NoRepeat F)
+step_end (Some met) again slot mark = Err (Fault slot met)
+step_end None true slot mark = Ok (Some (record { mark = mark; instant = slot + 1 }))
+step_end None false slot mark = Ok None
 
 module _ {S F : Type 0} (steps : Stepping S F) where
   -- the search from a slot on, with so many slots left
   unfoldable pub look : (left slot : ℕ) → Search S → Result Repeat (NoRepeat F)
   look zero slot x = Err Nowhere
   look (suc left) slot x =
-      let to = after_turn steps.next slot x in
-      elim (turn_end (steps.fault x.here) (steps.alike to.here x.kept) slot x.mark) [
+      let to = after_step steps slot x in
+      elim (step_end (steps.fault x.here) (steps.alike to.here x.kept) slot x.mark) [
         | Ok (Some found) ↦ Ok found
         | Ok None ↦ look left (slot + 1) to
         | Err end ↦ Err end
       ]
 
-  -- and so a turn ends
-  turn_is : (slot : ℕ) (x : Search S) (met : Option F) (again : Bool) → steps.fault x.here ≡ met → steps.alike (steps.next x.here) x.kept ≡ again
-      → Turn steps slot x (turn_end met again slot x.mark)
-  turn_is slot x (Some f) again e same = (e, refl)
-  turn_is slot x None true e same = (e, same, refl)
-  turn_is slot x None false e same = (e, same)
+  -- and so a search step ends
+  step_ends : (slot : ℕ) (x : Search S) (met : Option F) (again : Bool) → steps.fault x.here ≡ met → steps.alike (steps.next x.here) x.kept ≡ again
+      → StepEnds steps slot x (step_end met again slot x.mark)
+  step_ends slot x (Some f) again e same = (e, refl)
+  step_ends slot x None true e same = (e, same, refl)
+  step_ends slot x None false e same = (e, same)
 
   module _ (s : S) (limit : ℕ) where
     -- from any slot of a search under way
@@ -39,8 +39,8 @@ module _ {S F : Type 0} (steps : Stepping S F) where
     unfolding look
     look_goes zero slot x e w = nowhere steps s slot x w limit (omega arith)
     look_goes (suc left) slot x e w =
-        let to : Search S = after_turn steps.next slot x in
-        (elim (turn_end (steps.fault x.here) (steps.alike to.here x.kept) slot x.mark) as (λ (r : Result (Option Repeat) (NoRepeat F)). Turn steps slot x r → Finds steps s limit (elim r [
+        let to : Search S = after_step steps slot x in
+        (elim (step_end (steps.fault x.here) (steps.alike to.here x.kept) slot x.mark) as (λ (r : Result (Option Repeat) (NoRepeat F)). StepEnds steps slot x r → Finds steps s limit (elim r [
           | Ok (Some found) ↦ Ok found
           | Ok None ↦ look left (slot + 1) to
           | Err end ↦ Err end
@@ -48,7 +48,7 @@ module _ {S F : Type 0} (steps : Stepping S F) where
           | Ok (Some found) ↦ λ t. repeat_found steps s slot x w limit found (omega arith) t
           | Ok None ↦ λ t. look_goes left (slot + 1) to (omega arith) (onward steps s slot x w to t refl)
           | Err end ↦ λ t. fault_found steps s slot x w limit end (omega arith) t
-        ]) (turn_is slot x (steps.fault x.here) (steps.alike to.here x.kept) refl refl)
+        ]) (step_ends slot x (steps.fault x.here) (steps.alike to.here x.kept) refl refl)
 
     -- from the start
     pub look_finds : Finds steps s limit (look limit 0 (search_from s))

@@ -21,7 +21,7 @@ module _ {S F : Type 0} (steps : Stepping S F) (s : S) (limit : ℕ) where
   repeat_fault : (m t u : ℕ) (f : F) → RepeatFound steps s limit m t → FaultFound steps s limit u f → ⊥
   repeat_fault m t u f x y =
       elim (cases_lt u t) [
-        | inl less ↦ let none = x.calm u less in let some = y.meets in cc
+        | inl less ↦ let none = x.faultless u less in let some = y.meets in cc
         | inr more ↦ y.unrepeated t x.from_one more x.repeats
       ]
 
@@ -34,13 +34,13 @@ module _ {S F : Type 0} (steps : Stepping S F) (s : S) (limit : ℕ) where
   two_faults t u f g x y =
       elim (cases_order t u) [
         | inl same ↦ let met = x.meets in let met' = y.meets in cc
-        | inr (inl less) ↦ let none = y.calm t less in let some = x.meets in cc
-        | inr (inr more) ↦ let none = x.calm u more in let some = y.meets in cc
+        | inr (inl less) ↦ let none = y.faultless t less in let some = x.meets in cc
+        | inr (inr more) ↦ let none = x.faultless u more in let some = y.meets in cc
       ]
 
   -- a search that finds a fault does not find nothing
   fault_nowhere : (t : ℕ) (f : F) → FaultFound steps s limit t f → NowhereFound steps s limit → ⊥
-  fault_nowhere t f x y = let none = y.calm t x.within in let some = x.meets in cc
+  fault_nowhere t f x y = let none = y.faultless t x.within in let some = x.meets in cc
 
   -- so it has one answer only
   pub only : (x y : Result Repeat (NoRepeat F)) → Finds steps s limit x → Finds steps s limit y → x ≡ y

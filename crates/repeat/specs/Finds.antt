@@ -5,28 +5,33 @@ use Rattle.repeat.specs.declared.found.NoRepeat.{NoRepeat}
 use Rattle.repeat.specs.declared.found.NoRepeat.TheVariants.{Fault, Nowhere}
 use Rattle.repeat.specs.declared.found.Repeat.{Repeat}
 
--- what stepping means, over its states
+-- what a kind of stepping thing means, over the states in which its things stand
 pub record Stepping (S F : Type 0) : Type 0 where
   -- the fault that a step from a state meets, if any
   pub fault : S → Option F
   -- where a step leads from a state, unless it meets a fault
   pub next : S → S
-  -- what a comparison of two states says
+  -- where a step that meets a fault stops
+  pub stopped : S → S
+  -- what a comparison of two states says: always the same
   pub alike : S → S → Bool
+  -- a yes means the same faults, or none, ever after
+  pub lasting : (s t : S) → alike s t ≡ true → (n : ℕ)
+      → fault (after next n s) ≡ fault (after next n t)
 
 -- steps from state s
 module _ {S F : Type 0} (steps : Stepping S F) (s : S) where
   -- the first n steps meet no fault
-  abbrev pub Calm : ℕ → Type 0
-  Calm n = (u : ℕ) → u < n → steps.fault (after steps.next u s) ≡ None
+  abbrev pub NoFaultBefore : ℕ → Type 0
+  NoFaultBefore n = (u : ℕ) → u < n → steps.fault (after steps.next u s) ≡ None
 
   -- the state at instant t compares yes with the state at t's mark
   abbrev pub Repeats : ℕ → Type 0
   Repeats t = steps.alike (after steps.next t s) (after steps.next (mark_of t) s) ≡ true
 
   -- no instant from 1 to n repeats
-  abbrev pub Unrepeated : ℕ → Type 0
-  Unrepeated n = (t : ℕ) → 0 < t → t ≤ n → Repeats t → ⊥
+  abbrev pub NoRepeatUpTo : ℕ → Type 0
+  NoRepeatUpTo n = (t : ℕ) → 0 < t → t ≤ n → ¬ Repeats t
 
   -- a search up to a limit
   module _ (limit : ℕ) where
@@ -37,20 +42,20 @@ module _ {S F : Type 0} (steps : Stepping S F) (s : S) where
       pub mark_is : mark ≡ mark_of instant
       pub below : mark < instant
       pub repeats : Repeats instant
-      pub calm : Calm instant
-      pub first : (t : ℕ) → 0 < t → t < instant → Repeats t → ⊥
+      pub faultless : NoFaultBefore instant
+      pub first : (t : ℕ) → 0 < t → t < instant → ¬ Repeats t
 
     -- the first fault, before which nothing repeats
     pub record FaultFound (slot : ℕ) (met : F) : Type 0 where
       pub within : slot < limit
       pub meets : steps.fault (after steps.next slot s) ≡ Some met
-      pub calm : Calm slot
-      pub unrepeated : Unrepeated slot
+      pub faultless : NoFaultBefore slot
+      pub unrepeated : NoRepeatUpTo slot
 
     -- neither a fault nor a repeat up to the limit
     pub record NowhereFound : Type 0 where
-      pub calm : Calm limit
-      pub unrepeated : Unrepeated limit
+      pub faultless : NoFaultBefore limit
+      pub unrepeated : NoRepeatUpTo limit
 
     -- the answer of a search
     abbrev pub Finds : Result Repeat (NoRepeat F) → Type 0

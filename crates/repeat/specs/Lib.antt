@@ -1,3 +1,3 @@
 pub mod Marks
 pub mod Finds
-pub mod Turns
+pub mod SearchStep

@@ -2,7 +2,7 @@
 -- 2^k - 1, so one of 0, 1, 3, 7, ...
 use Rattle.std.specs.Prelude.{◌≡◌, ℕ, zero, suc, ◌+◌, ◌*◌, ◌^◌, ◌<◌, ◌≤◌, Bool, if◌then◌else◌, ◌==◌}
 
--- the state n steps on: the last step outermost, as a search takes it, where std's `iterate` has it innermost
+-- the state n steps on
 abbrev pub after : {S : Type 0} → (S → S) → ℕ → S → S
 after next zero s = s
 after next (suc n) s = next (after next n s)
@@ -11,7 +11,7 @@ after next (suc n) s = next (after next n s)
 abbrev pub is_next_mark : ℕ → ℕ → Bool
 is_next_mark m t = t == 2 * m + 1
 
--- the mark of the instant after t, where m is the mark of t: t if it follows m, and otherwise still m
+-- the mark of the instant after t, where m is the mark of t: t if it follows m, and else still m
 abbrev pub next_mark : ℕ → ℕ → ℕ
 next_mark m t = if is_next_mark m t then t else m
 

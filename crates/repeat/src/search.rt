@@ -1,12 +1,13 @@
 ghost use Rattle.std.specs.Prelude.{◌≡◌, ℕ, ◌<◌, None, Ok, OnOk};
 ghost use Rattle.repeat.specs.Finds.{Finds};
 ghost use Rattle.repeat.specs.Marks.{Largest, after, mark_of};
-ghost use Rattle.repeat.specs.Turns.{Turn, after_renewal, after_turn, search_from, states_of};
+ghost use Rattle.repeat.specs.SearchStep.{StepEnds, after_renewal, after_step, search_from, states_of};
 
 use crate::found::{NoRepeat, Repeat};
 use crate::stepper::Stepper;
 
-// A search under way: the stepping thing, the mark, and the stepping thing as it stood there: a whole copy.
+// A search under way: the stepping thing, the mark, and a copy of the stepping thing as it stood
+// there.
 #[derive(Drop)]
 struct Search<S> {
     here: S,
@@ -36,13 +37,14 @@ impl<S: Stepper> Search<S> {
         }
     }
 
-    // One turn: a step, then the present state asked about the one at the mark, and the mark renewed.
-    fn turn(&mut self, slot: u16) -> Result<Option<Repeat>, NoRepeat<S::Fault>>
+    // One step of the search: the stepping thing steps, its state is compared with the one at the
+    // mark, and the mark is renewed.
+    fn step(&mut self, slot: u16) -> Result<Option<Repeat>, NoRepeat<S::Fault>>
         requires { slot < 65535 }
-        ensures ends { Turn (record { fault = S.fault; next = S.next; alike = S.alike }) slot
-            (states_of S.state self.old) result }
-        ensures onward { result ≡ Ok None
-            → states_of S.state self.new ≡ after_turn S.next slot (states_of S.state self.old) }
+        ensures ends { StepEnds S.meaning slot (states_of S.state self.old) result }
+        ensures goes_on { result ≡ Ok None
+            → states_of S.state self.new
+            ≡ after_step S.meaning slot (states_of S.state self.old) }
     {
         self.here
             .step()
@@ -59,24 +61,21 @@ impl<S: Stepper> Search<S> {
     }
 }
 
-// Steps a copy of `start` from instant 0 on. The search ends at the first instant from 1 on whose
-// state compares yes with the one at its mark, or at the first fault on the way, or with neither at
-// the limit. The mark of an instant is the largest number below it of the form 2^k - 1. After a
-// repeat no step, however far ahead, meets a fault. The clauses name the three members of the stepper: a member that
-// bundled them would be one more for each kind to define.
+/// Steps a copy of `start` from instant 0 on. The search ends at the first instant from 1 on whose
+/// state compares yes with the one at its mark, or fails with the first fault on the way, or with
+/// neither at the limit. The mark of an instant is the largest number below it of the form 2^k - 1.
+/// After a repeat no step, however far ahead, meets a fault.
 #[tactic(auto, using(crate::proofs::Marks::largest))]
 pub fn first_repeat<S: Stepper>(start: &S, limit: u16) -> Result<Repeat, NoRepeat<S::Fault>>
-    ensures found { Finds (record { fault = S.fault; next = S.next; alike = S.alike })
-        (S.state start.now) limit result }
-    ensures only { (x : _)
-        → Finds (record { fault = S.fault; next = S.next; alike = S.alike }) (S.state start.now) limit x
-        → x ≡ result }
-    ensures ever { OnOk result ((n : ℕ) → S.fault (after S.next n (S.state start.now)) ≡ None) }
+    ensures found { Finds S.meaning (S.state start.now) limit result }
+    ensures only { (x : _) → Finds S.meaning (S.state start.now) limit x → x ≡ result }
+    ensures faultless { OnOk result
+        ((n : ℕ) → S.meaning.fault (after S.meaning.next n (S.state start.now)) ≡ None) }
     ensures marks { (t : ℕ) → 0 < t → Largest t (mark_of t) }
 {
     let mut search = Search::new(start);
     for slot in 0..limit {
-        if let Some(repeat) = search.turn(slot)? {
+        if let Some(repeat) = search.step(slot)? {
             return Ok(repeat);
         }
     }

@@ -1,4 +1,4 @@
-use crate::rows::Rows;
+use crate::Rows;
 
 #[test]
 fn pushed_in_order(rt: HostRuntime) {
@@ -10,13 +10,10 @@ fn pushed_in_order(rt: HostRuntime) {
 
 #[test]
 fn none_past_the_sixteenth(rt: HostRuntime) {
-    let rows = Rows::of(&[5u8; 17], 0, |n| *n);
+    let mut rows = Rows::new(0u8);
+    for n in 0..17 {
+        rows.push(n);
+    }
     assert_eq!(rt; rows.as_slice().len(), 16);
-}
-
-#[test]
-fn changed_in_place(rt: HostRuntime) {
-    let mut rows = Rows::of(&[1u8, 2, 3], 0, |n| *n);
-    rows.lend(|lent| lent.reverse());
-    assert!(rt; rows.as_slice() == [3, 2, 1].as_slice());
+    assert_eq!(rt; rows.as_slice().last(), Some(&15));
 }

@@ -1,4 +1,4 @@
-// Worked examples of planning, of slots, of searches and of scripts, as tests.
+//! Worked examples of planning, of slots, of searches and of scripts, as tests.
 #![tactic(auto)]
 
 #[cfg(test)]

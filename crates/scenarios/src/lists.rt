@@ -1,9 +1,6 @@
-use readings::list::Readings;
-use readings::reading::Proposal;
-use readings::refusal::Refusal;
+use readings::{Proposal, Readings, Refusal};
 
-// Readings 7, 8 and 9, each with its work length and validity. Lists of their own, since the program `examples` lends
-// none of its code.
+// The list of readings 7, 8 and 9, each with its work length and validity.
 pub(crate) fn list_of(rows: [(u32, u32); 3]) -> Result<Readings, Refusal> {
     let [first, second, third] = rows;
     Readings::new(&[proposal(7, first), proposal(8, second), proposal(9, third)])

@@ -1,11 +1,8 @@
 use crate::lists::{list_of, list_x, proposal};
-use periodic::periodic::Periodic;
-use planner::timings::Timings;
-use policy::agree::same_answers;
-use policy::bank::Bank;
-use policy::policy::Policy;
-use readings::list::Readings;
-use readings::refusal::Refusal;
+use periodic::Periodic;
+use planner::Timings;
+use policy::{Bank, Policy, copies_agree, same_answers};
+use readings::{Readings, Refusal};
 use std::test::Fail;
 
 // Whether these are the periods of the rows.
@@ -58,19 +55,33 @@ fn a_periodic_policy_runs_the_lowest_row(rt: HostRuntime) -> Result<(), Fail> {
 fn a_bank_plays_the_used_policy(rt: HostRuntime) -> Result<(), Fail> {
     let first = Periodic::new(&Timings::more_less(&list_x()?)?);
     let second = Periodic::new(&Timings::half_half(&list_x()?));
-    let bank = Bank {
-        first,
-        second,
-        used: 2,
-    };
+    let bank = Bank::new(first, second, 2);
     assert!(rt; same_answers(&bank, &second, 100));
     assert!(rt; !same_answers(&bank, &first, 100));
-    assert!(rt;
-        !bank.same(&Bank {
-            first,
-            second,
-            used: 1,
-        },)
-    );
+    assert!(rt; !bank.same(&Bank::new(first, second, 1)));
+    Ok(())
+}
+
+// Any number but 1 uses the second.
+#[test]
+fn a_bank_with_number_0_plays_the_second(rt: HostRuntime) -> Result<(), Fail> {
+    let first = Periodic::new(&Timings::more_less(&list_x()?)?);
+    let second = Periodic::new(&Timings::half_half(&list_x()?));
+    let bank = Bank::new(first, second, 0);
+    assert!(rt; same_answers(&bank, &second, 100));
+    assert!(rt; !same_answers(&bank, &first, 100));
+    Ok(())
+}
+
+// The policy has taken its samples, and row 2 is to run.
+#[test]
+fn copies_of_a_stepped_policy_step_alike(rt: HostRuntime) -> Result<(), Fail> {
+    let mut policy = Periodic::new(&Timings::more_less(&list_x()?)?);
+    assert_eq!(rt; policy.step(), (7, 1));
+    let (mut left, mut right) = copies_agree(&policy);
+    for answer in [(0, 2), (0, 2), (0, 3), (1, 1)] {
+        assert_eq!(rt; left.step(), answer);
+        assert_eq!(rt; right.step(), answer);
+    }
     Ok(())
 }

@@ -1,13 +1,13 @@
-use script::rehearsal::Rehearsal;
+use script::replies_to;
 use std::alloc::{AllocError, Global};
 use std::fmt::Write;
 use std::test::Fail;
 
-// What is written for the script.
+// What is written for a script.
 fn rehearsed(heap: Global, text: &[u8]) -> Result<String, AllocError> {
+    let replies = replies_to(heap, text)?;
     let mut written = String::new(heap);
-    let mut rehearsal = Rehearsal::new(heap, text);
-    while let Some(reply) = rehearsal.reply()? {
+    for reply in &replies {
         write!(written, "{reply}")?;
     }
     Ok(written)
@@ -19,51 +19,91 @@ fn writes(rt: &HostRuntime, text: &[u8], expected: &str) -> Result<bool, AllocEr
     Ok(written.as_str() == expected)
 }
 
+// Whether a script of these lines is answered so, each line with what stands beside it: a line of
+// output, a line for each tick, or nothing.
+fn answers(rt: &HostRuntime, lines: &[(&str, &str)]) -> Result<bool, AllocError> {
+    let mut text = String::new(rt.alloc());
+    let mut expected = String::new(rt.alloc());
+    for (line, replies) in lines {
+        writeln!(text, "{line}")?;
+        for reply in replies.lines() {
+            writeln!(expected, "{reply}")?;
+        }
+    }
+    writes(rt, text.as_bytes(), expected.as_str())
+}
+
 #[test]
 fn plans(rt: HostRuntime) -> Result<(), Fail> {
     assert!(rt;
-        writes(
+        answers(
             &rt,
-            b"plan\nreading 7 1 5\nreading 8 2 10\nreading 9 2 20\nmore\n",
-            "ok\nok\nok\nok\nok\n",
+            &[
+                ("plan", "ok"),
+                ("reading 7 1 5", "ok"),
+                ("reading 8 2 10", "ok"),
+                ("reading 9 2 20", "ok"),
+                ("more", "ok"),
+            ],
         )?
     );
     assert!(rt;
-        writes(
+        answers(
             &rt,
-            b"plan\nreading 1 2 6\nreading 2 3 13\nmore\n",
-            "ok\nok\nok\nno 5\n",
+            &[
+                ("plan", "ok"),
+                ("reading 1 2 6", "ok"),
+                ("reading 2 3 13", "ok"),
+                ("more", "no 5"),
+            ],
         )?
     );
     assert!(rt;
-        writes(
+        answers(
             &rt,
-            b"plan\nreading 1 2 6\nreading 2 3 13\nhalf\n",
-            "ok\nok\nok\nok\n",
+            &[
+                ("plan", "ok"),
+                ("reading 1 2 6", "ok"),
+                ("reading 2 3 13", "ok"),
+                ("half", "ok"),
+            ],
         )?
     );
     Ok(())
 }
 
+// Whether a plan of this one reading is refused so at its end.
+fn refuses(rt: &HostRuntime, reading: &str, refusal: &str) -> Result<bool, AllocError> {
+    answers(rt, &[("plan", "ok"), (reading, "ok"), ("half", refusal)])
+}
+
 #[test]
 fn lists_that_are_refused(rt: HostRuntime) -> Result<(), Fail> {
-    assert!(rt; writes(&rt, b"plan\nhalf\n", "ok\nno 1\n")?);
-    assert!(rt; writes(&rt, b"plan\nreading 1 1 1\nhalf\n", "ok\nok\nno 2\n")?);
-    assert!(rt; writes(&rt, b"plan\nreading 1 256 300\nhalf\n", "ok\nok\nno 2\n")?);
-    assert!(rt; writes(&rt, b"plan\nreading 1 1 4096\nhalf\n", "ok\nok\nno 2\n")?);
+    assert!(rt; answers(&rt, &[("plan", "ok"), ("half", "no 1")])?);
+    assert!(rt; refuses(&rt, "reading 1 1 1", "no 2")?);
+    assert!(rt; refuses(&rt, "reading 1 256 300", "no 2")?);
+    assert!(rt; refuses(&rt, "reading 1 1 4096", "no 2")?);
+    assert!(rt; refuses(&rt, "reading 0 1 5", "no 3")?);
     assert!(rt;
-        writes(
+        answers(
             &rt,
-            b"plan\nreading 3 1 5\nreading 3 1 5\nhalf\n",
-            "ok\nok\nok\nno 3\n",
+            &[
+                ("plan", "ok"),
+                ("reading 3 1 5", "ok"),
+                ("reading 3 1 5", "ok"),
+                ("half", "no 3"),
+            ],
         )?
     );
-    assert!(rt; writes(&rt, b"plan\nreading 0 1 5\nhalf\n", "ok\nok\nno 3\n")?);
     assert!(rt;
-        writes(
+        answers(
             &rt,
-            b"plan\nreading 1 1 9\nreading 2 1 8\nhalf\n",
-            "ok\nok\nok\nno 4\n",
+            &[
+                ("plan", "ok"),
+                ("reading 1 1 9", "ok"),
+                ("reading 2 1 8", "ok"),
+                ("half", "no 4"),
+            ],
         )?
     );
     Ok(())
@@ -86,14 +126,41 @@ fn seventeen_readings(rt: HostRuntime) -> Result<(), Fail> {
 
 #[test]
 fn lines_out_of_place(rt: HostRuntime) -> Result<(), Fail> {
-    assert!(rt; writes(&rt, b"reading 1 1 2\nhalf\nmore\n", "no 24\nno 24\nno 24\n")?);
-    assert!(rt; writes(&rt, b"plan\nplan\nhalf\nhalf\n", "ok\nno 24\nno 1\nno 24\n")?);
     assert!(rt;
-        writes(
+        answers(
             &rt,
-            b"plan\nhalf\nplan\nhalf\nplan\n",
-            "ok\nno 1\nok\nno 1\nno 24\n",
-        )?
+            &[
+                ("reading 1 1 2", "no 24"),
+                ("half", "no 24"),
+                ("more", "no 24"),
+            ],
+        )?,
+        "before a plan"
+    );
+    assert!(rt;
+        answers(
+            &rt,
+            &[
+                ("plan", "ok"),
+                ("plan", "no 24"),
+                ("half", "no 1"),
+                ("half", "no 24"),
+            ],
+        )?,
+        "within a plan, and behind it"
+    );
+    assert!(rt;
+        answers(
+            &rt,
+            &[
+                ("plan", "ok"),
+                ("half", "no 1"),
+                ("plan", "ok"),
+                ("half", "no 1"),
+                ("plan", "no 24"),
+            ],
+        )?,
+        "a third plan"
     );
     Ok(())
 }
@@ -102,15 +169,32 @@ fn lines_out_of_place(rt: HostRuntime) -> Result<(), Fail> {
 fn lines_that_are_malformed(rt: HostRuntime) -> Result<(), Fail> {
     assert!(rt; writes(&rt, b"", "")?);
     assert!(rt; writes(&rt, b"plan", "no 24\n")?, "no byte 10 behind it");
-    assert!(rt; writes(&rt, b"\n Plan\nplan \n", "no 24\nno 24\nno 24\n")?);
     assert!(rt;
-        writes(
+        writes(&rt, b"plan\nhalf", "ok\nno 24\n")?,
+        "no byte 10 behind the last"
+    );
+    assert!(rt;
+        answers(
             &rt,
-            b"plan\nreading 1  1 2\nreading 65536 1 2\n",
-            "ok\nno 24\nno 24\n",
+            &[("", "no 24"), (" Plan", "no 24"), ("plan ", "no 24")]
         )?
     );
-    assert!(rt; writes(&rt, b"start\ntick x\nstop 1\n", "no 24\nno 24\nno 24\n")?);
+    assert!(rt;
+        answers(
+            &rt,
+            &[
+                ("plan", "ok"),
+                ("reading 1  1 2", "no 24"),
+                ("reading 65536 1 2", "no 24"),
+            ],
+        )?
+    );
+    assert!(rt;
+        answers(
+            &rt,
+            &[("start", "no 24"), ("tick x", "no 24"), ("stop 1", "no 24")],
+        )?
+    );
     Ok(())
 }
 
@@ -128,10 +212,24 @@ fn a_script_of_the_greatest_length(rt: HostRuntime) -> Result<(), Fail> {
 #[test]
 fn a_day_of_the_board(rt: HostRuntime) -> Result<(), Fail> {
     assert!(rt;
-        writes(
+        answers(
             &rt,
-            b"plan\nreading 7 1 5\nreading 8 2 10\nreading 9 2 20\nmore\nstart 1\nshow 9\ntick 6\nshow 9\nstop\nstop\n",
-            "ok\nok\nok\nok\nok\nstart 31 28\nshow none\n7 1 1 0\n0 2 0 0\n0 2 2 0\n0 3 0 0\n1 1 1 0\n0 3 3 0\nshow 6 20\nok\nno 14\n",
+            &[
+                ("plan", "ok"),
+                ("reading 7 1 5", "ok"),
+                ("reading 8 2 10", "ok"),
+                ("reading 9 2 20", "ok"),
+                ("more", "ok"),
+                ("start 1", "start 31 28"),
+                ("show 9", "show none"),
+                ("tick 0", ""),
+                ("tick 1", "7 1 1 0"),
+                ("tick 5", "0 2 0 0\n0 2 2 0\n0 3 0 0\n1 1 1 0\n0 3 3 0"),
+                ("show 9", "show 6 20"),
+                ("stop", "ok"),
+                ("tick 2", "no 14"),
+                ("stop", "no 14"),
+            ],
         )?
     );
     Ok(())
@@ -140,18 +238,34 @@ fn a_day_of_the_board(rt: HostRuntime) -> Result<(), Fail> {
 #[test]
 fn calls_that_are_refused(rt: HostRuntime) -> Result<(), Fail> {
     assert!(rt;
-        writes(
+        answers(
             &rt,
-            b"tick 3\ntick 0\nshow 1\nstop\nplan\nstart 1\n",
-            "no 14\nno 14\nno 14\nno 24\nno 25\n",
+            &[
+                ("tick 3", "no 14"),
+                ("tick 0", ""),
+                ("show 1", "no 14"),
+                ("stop", "no 14"),
+                ("plan", "no 24"),
+                ("start 1", "no 25"),
+            ],
         )?,
         "a board that rests, no ticks, and a plan after a call"
     );
     assert!(rt;
-        writes(
+        answers(
             &rt,
-            b"start 1\nswitch 3 5\nplan\nreading 7 1 2\nstart 1\nhalf\nstart 2\nstart 1\nstart 1\nshow 8\n",
-            "no 25\nno 25\nok\nok\nno 24\nok\nno 25\nstart 1 1\nno 15\nno 19\n",
+            &[
+                ("start 1", "no 25"),
+                ("switch 3 5", "no 25"),
+                ("plan", "ok"),
+                ("reading 7 1 2", "ok"),
+                ("start 1", "no 24"),
+                ("half", "ok"),
+                ("start 2", "no 25"),
+                ("start 1", "start 1 1"),
+                ("start 1", "no 15"),
+                ("show 8", "no 19"),
+            ],
         )?,
         "plans that are not there, and a call inside a plan"
     );
@@ -160,23 +274,36 @@ fn calls_that_are_refused(rt: HostRuntime) -> Result<(), Fail> {
 
 #[test]
 fn no_ticks_end_the_plans(rt: HostRuntime) -> Result<(), Fail> {
-    assert!(rt; writes(&rt, b"tick 0\nplan\n", "no 24\n")?);
+    assert!(rt; answers(&rt, &[("tick 0", ""), ("plan", "no 24")])?);
     Ok(())
 }
 
 #[test]
 fn switches(rt: HostRuntime) -> Result<(), Fail> {
-    let plans =
-        "plan\nreading 7 1 5\nreading 8 2 10\nreading 9 2 20\nmore\nplan\nreading 7 2 8\nreading 8 2 10\nreading 9 2 12\nmore\n";
-    let mut text = String::from_str(rt.alloc(), plans)?;
-    text.push_str(
-        "switch 2 9\nstart 1\ntick 1\nswitch 2 4096\nswitch 2 4\nswitch 2 5\nswitch 2 5\ntick 5\nshow 7\n",
-    )?;
     assert!(rt;
-        writes(
+        answers(
             &rt,
-            text.as_bytes(),
-            "ok\nok\nok\nok\nok\nok\nok\nok\nok\nok\nno 14\nstart 31 28\n7 1 1 0\nno 17\nno 18\nswitch 5\nno 16\n0 2 0 0\n0 2 2 0\n0 3 0 0\n1 1 1 0\n0 3 3 1\nshow 2 8\n",
+            &[
+                ("plan", "ok"),
+                ("reading 7 1 5", "ok"),
+                ("reading 8 2 10", "ok"),
+                ("reading 9 2 20", "ok"),
+                ("more", "ok"),
+                ("plan", "ok"),
+                ("reading 7 2 8", "ok"),
+                ("reading 8 2 10", "ok"),
+                ("reading 9 2 12", "ok"),
+                ("more", "ok"),
+                ("switch 2 9", "no 14"),
+                ("start 1", "start 31 28"),
+                ("tick 1", "7 1 1 0"),
+                ("switch 2 4096", "no 17"),
+                ("switch 2 4", "no 18"),
+                ("switch 2 5", "switch 5"),
+                ("switch 2 5", "no 16"),
+                ("tick 5", "0 2 0 0\n0 2 2 0\n0 3 0 0\n1 1 1 0\n0 3 3 1"),
+                ("show 7", "show 2 8"),
+            ],
         )?
     );
     Ok(())

@@ -1,8 +1,6 @@
 ghost use Rattle.std.specs.Prelude.{ℕ, ◌-◌, ◌==◌, ◌&&◌, if◌then◌else◌, None, refl};
 
-use repeat::found::{NoRepeat, Repeat};
-use repeat::search::first_repeat;
-use repeat::stepper::Stepper;
+use repeat::{NoRepeat, Repeat, Stepper, first_repeat};
 use std::test::Fail;
 
 // A number that falls by one to 0, and then starts again from another one.
@@ -19,15 +17,13 @@ impl Stepper for Falling {
 
     ghost state = { λ f. (f.at, f.again) };
 
-    ghost fault = { λ _. None };
-
-    ghost next = { λ s. (if s.0 == 0 then s.1 else s.0 - 1, s.1) };
-
-    ghost stopped = { λ s. s };
-
-    ghost alike = { λ s t. s.0 == t.0 && s.1 == t.1 };
-
-    ghost lasting = { λ _ _ _ _. refl };
+    ghost meaning = { record {
+      fault = λ _. None;
+      next = λ s. (if s.0 == 0 then s.1 else s.0 - 1, s.1);
+      stopped = λ s. s;
+      alike = λ s t. s.0 == t.0 && s.1 == t.1;
+      lasting = λ _ _ _ _. refl;
+    } };
 
     fn step(&mut self) -> Result<(), ()> {
         self.at = if self.at == 0 {
@@ -47,7 +43,8 @@ impl Stepper for Falling {
     }
 }
 
-// Where the numbers come again, with the mark: from the start in turns of 1 and of 3, and in turns of 2 after 4 others.
+// Where the numbers come again, with the mark: at once with every number 0, from the start every 3
+// steps, and after 4 others every 2 steps.
 #[test]
 fn the_first_repeat(rt: HostRuntime) -> Result<(), Fail> {
     let repeats = [(0, 0, 0, 1), (2, 2, 3, 6), (5, 1, 7, 9)];

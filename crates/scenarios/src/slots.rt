@@ -1,6 +1,5 @@
 use crate::lists::list_x;
-use books::books::Books;
-use books::fault::Fault;
+use books::{Books, Fault};
 use std::test::Fail;
 
 // The first in the order of the steps, lowest row first. In `opened` row 2 has an open job.

@@ -1,9 +1,13 @@
 pub mod Plans
 pub mod Drafting
 pub mod Boards
-pub mod Places
-pub mod Deeds
 pub mod Replies
+pub mod Written
 pub mod States
+pub mod Calls
+pub mod Lines
 pub mod Texts
-pub mod Stands
+pub mod Laws
+pub mod Held
+pub mod Sinks
+pub mod Stops

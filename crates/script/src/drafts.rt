@@ -1,18 +1,17 @@
-ghost use Rattle.script.specs.Drafting.{begins, ends, keeps, no_plans, proposes};
-ghost use Rattle.script.specs.Plans.{plan_of};
-ghost use Rattle.script.specs.Deeds.{plan_at, plan_turn};
-ghost use Rattle.script.specs.Stands.{NoRoom, drafting_of};
+// What has been written of the plans of a script.
 ghost use Rattle.readings.specs.Refusals.{refusal_of};
-ghost use Rattle.std.specs.Prelude.{◌≡◌, Ok, Err};
+ghost use Rattle.script.specs.Drafting.{line_drafted, no_plans, plan_at, plan_begun, plan_ended, reading_added, with_ready};
+ghost use Rattle.script.specs.Held.{NoRoom, drafting_of};
+ghost use Rattle.script.specs.Plans.{plan_of};
+ghost use Rattle.std.specs.Prelude.{◌≡◌, IfOk, OnErr};
 ghost use Rattle.std.specs.Option.{option_map};
 
 use crate::plan::{Plan, Planner};
-use lines::command::Command;
-use readings::reading::Proposal;
-use readings::refusal::Refusal;
+use lines::PlanLine;
+use readings::{Proposal, Refusal};
 use std::alloc::{AllocError, Global};
 
-// What has been written of the plans of a script.
+// What has been written of the plans of a script, between two of its lines.
 #[derive(Drop)]
 pub(crate) struct Drafts {
     heap: Global,
@@ -20,8 +19,9 @@ pub(crate) struct Drafts {
     begun: u8,
     // the readings so far of the last of them, if it has not ended
     proposed: Option<Vec<Proposal>>,
-    // the plans that are ready; no array, so that no index can be wrong
+    // the first plan, if it is ready
     first: Option<Plan>,
+    // the second plan, if it is ready
     second: Option<Plan>,
 }
 
@@ -57,61 +57,60 @@ impl Drafts {
         }
     }
 
-    // Does what the line of a plan asks for; a call, which no caller hands over, writes nothing. Memory fails only where a reading is added and there is no
-    // room for it, and then nothing has changed. A refusal stands in the `Ok`, so that a caller's `?` hands on want of
-    // memory alone.
-    pub(crate) fn write(&mut self, command: Command) -> Result<Result<(), Refusal>, AllocError>
-        ensures { elim result [
-          | Ok told ↦ (refusal_of told, drafting_of self.new) ≡ plan_turn command (drafting_of self.old)
-          | Err e ↦ (drafting_of self.new ≡ drafting_of self.old) × NoRoom self.old (plan_turn command (drafting_of self.old))
-        ] }
+    // Writes what the line of a plan says, or tells why not: 24 where it is out of place, and as
+    // the plan is refused that it ends. Memory fails only where the line adds a reading and there
+    // is no room for it, and then nothing has changed.
+    pub(crate) fn write(&mut self, line: PlanLine) -> Result<Result<(), Refusal>, AllocError>
+        ensures ok { IfOk result (λ told. (refusal_of told, drafting_of self.new)
+            ≡ line_drafted line (drafting_of self.old)) }
+        ensures unchanged { OnErr result (drafting_of self.new ≡ drafting_of self.old) }
+        ensures err { OnErr result
+            (NoRoom (line_drafted line (drafting_of self.old)) self.old) }
     {
-        match command {
-            Command::Plan => Ok(self.begin()),
-            Command::Reading { id, work, validity } => {
+        match line {
+            PlanLine::Begin => Ok(self.begin()),
+            PlanLine::Reading { id, work, validity } => {
                 self.propose(Proposal::new(id.into(), work.into(), validity.into()))
             }
-            Command::Half => Ok(self.finish(Planner::HalfHalf)),
-            Command::More => Ok(self.finish(Planner::MoreLess)),
-            Command::Start { .. }
-            | Command::Tick { .. }
-            | Command::Switch { .. }
-            | Command::Show { .. }
-            | Command::Stop => Ok(Err(Refusal::Line)),
+            PlanLine::HalfHalf => Ok(self.finish(Planner::HalfHalf)),
+            PlanLine::MoreLess => Ok(self.finish(Planner::MoreLess)),
         }
     }
 
-    // A plan begins.
+    // A plan begins, unless one is being written or two have begun (24).
     fn begin(&mut self) -> Result<(), Refusal>
-        ensures { (refusal_of result, drafting_of self.new) ≡ begins (drafting_of self.old) }
+        ensures { (refusal_of result, drafting_of self.new) ≡ plan_begun (drafting_of self.old) }
     {
         if self.proposed.is_some() || self.begun >= 2 {
-            return Err(Refusal::Line);
+            return Err(Refusal::BadLine);
         }
         self.begun += 1;
         self.proposed = Some(Vec::new(self.heap));
         Ok(())
     }
 
-    // One reading more in the plan that is being written.
+    // One reading more in the plan that is being written; 24 where none is.
     fn propose(&mut self, reading: Proposal) -> Result<Result<(), Refusal>, AllocError>
-        ensures { elim result [
-          | Ok told ↦ (refusal_of told, drafting_of self.new) ≡ proposes reading (drafting_of self.old)
-          | Err e ↦ (drafting_of self.new ≡ drafting_of self.old) × NoRoom self.old (proposes reading (drafting_of self.old))
-        ] }
+        ensures ok { IfOk result (λ told. (refusal_of told, drafting_of self.new)
+            ≡ reading_added reading (drafting_of self.old)) }
+        ensures unchanged { OnErr result (drafting_of self.new ≡ drafting_of self.old) }
+        ensures err { OnErr result
+            (NoRoom (reading_added reading (drafting_of self.old)) self.old) }
     {
         let Some(proposed) = &mut self.proposed else {
-            return Ok(Err(Refusal::Line));
+            return Ok(Err(Refusal::BadLine));
         };
         proposed.push(reading)?;
         Ok(Ok(()))
     }
 
-    // The plan that is being written ends, and is ready if list and policy are made.
+    // The plan that is being written ends, and is ready if list and policy are made; 24 where none
+    // is being written.
     fn finish(&mut self, planner: Planner) -> Result<(), Refusal>
-        ensures { (refusal_of result, drafting_of self.new) ≡ ends planner (drafting_of self.old) }
+        ensures { (refusal_of result, drafting_of self.new)
+            ≡ plan_ended planner (drafting_of self.old) }
     {
-        let proposed = self.proposed.take().ok_or(Refusal::Line)?;
+        let proposed = self.proposed.take().ok_or(Refusal::BadLine)?;
         let plan = Plan::new(proposed.as_slice(), planner)?;
         self.keep(plan);
         Ok(())
@@ -119,7 +118,7 @@ impl Drafts {
 
     // The plan that began last is ready.
     fn keep(&mut self, plan: Plan)
-        ensures { drafting_of self.new ≡ keeps (plan_of plan) (drafting_of self.old) }
+        ensures { drafting_of self.new ≡ with_ready (plan_of plan) (drafting_of self.old) }
     {
         if self.begun == 1 {
             self.first = Some(plan);

@@ -1,85 +1,72 @@
-ghost use Rattle.script.specs.Stands.{Rehearsed, Stuck, coming, most_left};
-ghost use Rattle.script.specs.States.{State, at_first};
-ghost use Rattle.script.specs.Texts.{Comes, Rehearses, Replies, lines_of};
-ghost use Rattle.std.specs.Prelude.{◌≡◌, ◌≢◌, ◌<◌, IfOk, IsSome, List, [], ◌∷◌, Some, None, Ok, Err};
-ghost use Rattle.script.specs.declared.reply.Reply.{Reply};
-ghost use Rattle.script.specs.declared.reply.Reply.TheVariants.{Refused};
-ghost use Rattle.readings.specs.declared.refusal.Refusal.TheVariants.{Line};
+ghost use Rattle.script.specs.Laws.{AtMostTwoPlans, NoPlansAfterCalls, TickReplies, answered_lines};
+ghost use Rattle.script.specs.Replies.{Said, refused};
+ghost use Rattle.script.specs.Sinks.{AnswersText, BeginsText};
+ghost use Rattle.script.specs.Texts.{Rehearses};
+ghost use Rattle.std.specs.Prelude.{◌≡◌, ◌≢◌, ◌≤◌, List, [], length, OnErr, OnOk};
 
-use crate::reply::Reply;
+use crate::reply::LineReply;
 use crate::script::Script;
-use lines::pieces::Pieces;
-use readings::refusal::Refusal;
-use std::alloc::{AllocError, Global};
+use crate::sink::{Sink, Stopped, give};
+use lines::Pieces;
+use readings::Refusal;
+use std::alloc::Global;
 
-// the most bytes that a script may have
+/// The most bytes that a script may have.
 pub const LONGEST_SCRIPT: usize = 16_384;
 
-// what a longer script is taken for: a line cut short, so that its one refusal needs no case and no flag of its own
-const TOO_LONG: &[u8] = b"?";
+/// Answers a whole script: hands the sink the replies to its lines, one after the other. Fails only
+/// where the sink fails or memory runs out, and then the sink has got a beginning of the replies.
+#[tactic(auto, using(crate::proofs::LawsHold::two_plans, crate::proofs::TextRuns::refused_alone))]
+pub fn rehearse<S: Sink>(heap: Global, text: &[u8], sink: &mut S) -> Result<(), Stopped<S::Error>>
+    ensures ok { OnOk result
+        (AnswersText S.with_one (S.got sink.old) (S.got sink.new) text.now) }
+    ensures err { OnErr result
+        (BeginsText S.with_one (S.got sink.old) (S.got sink.new) text.now) }
 
-// A script that is answered line by line, and tick by tick.
-#[derive(Drop)]
-pub struct Rehearsal<'a> {
-    script: Script,
-    // the lines that are still to be answered, and what stands behind the last
-    lines: Pieces<'a>,
-}
-
-impl<'a> Rehearsal<'a> {
-    // The rehearsal of a script, before its first line.
-    pub fn new(heap: Global, text: &'a [u8]) -> Rehearsal<'a>
-        ensures lines { coming result ≡ lines_of text.now }
-        ensures state { Rehearsed at_first result }
-        ensures whole { (rs : List Reply) → Comes at_first (coming result) rs → Rehearses text.now rs }
-    {
-        let text = if text.len() > LONGEST_SCRIPT {
-            TOO_LONG
-        } else {
-            text
-        };
-        Rehearsal {
-            script: Script::new(heap),
-            lines: Pieces::new(text, b'\n'),
-        }
-    }
-
-    // The next reply: to a tick that is left of the last line, or to the next line; none after the last. Memory fails only
-    // where the line adds a reading and there is no room for it, and then nothing has changed.
-    pub fn reply(&mut self) -> Result<Option<Reply>, AllocError>
-        ensures ends { IfOk result (λ o. IsSome o → most_left self.new < most_left self.old) }
-        ensures replies { (s : State) → Rehearsed s self.old → elim result [
-          | Ok o ↦ elim o [
-            | None ↦ Comes s (coming self.old) [] × Comes s (coming self.new) [] × Rehearsed s self.new
-            | Some reply ↦ (u : State) × Rehearsed u self.new × Replies s.left s (coming self.old) reply u (coming self.new)
-                × ((rs : List Reply) → Comes u (coming self.new) rs → Comes s (coming self.old) (reply ∷ rs))
-          ]
-          | Err e ↦ Stuck self.old × (coming self.new ≡ coming self.old) × Rehearsed s self.new
-        ] }
-    {
-        if let Some(reply) = self.script.tick() {
-            return Ok(Some(reply));
-        }
-        let mut lines = self.lines;
-        let Some(line) = lines.next() else {
-            return Ok(None);
-        };
-        if lines.is_done() {
-            self.lines = lines;
-            return Ok(cut_short(line));
-        }
-        let reply = self.script.line(line)?;
-        self.lines = lines;
-        Ok(Some(reply))
-    }
-}
-
-// The answer to what stands behind the last line: none where nothing does.
-fn cut_short(rest: &[u8]) -> Option<Reply>
-    ensures { elim result [
-      | None ↦ rest.now ≡ []
-      | Some reply ↦ (rest.now ≢ []) × (reply ≡ Refused Line)
-    ] }
+    // What holds of the lines of the text, however they are answered.
+    ensures two_plans { (answers : List (List Said)) → Rehearses text.now answers
+        → AtMostTwoPlans (answered_lines text.now answers) }
+    ensures calls_last { (answers : List (List Said)) → Rehearses text.now answers
+        → NoPlansAfterCalls (answered_lines text.now answers) }
+    ensures ticks { (answers : List (List Said)) → Rehearses text.now answers
+        → TickReplies (answered_lines text.now answers) }
 {
-    (!rest.is_empty()).then_some(Reply::Refused(Refusal::Line))
+    if text.len() > LONGEST_SCRIPT {
+        give(sink, LineReply::Refused(Refusal::BadLine))
+    } else {
+        answer_lines(heap, text, sink)
+    }
+}
+
+// Answers the lines of a script that is not too long.
+fn answer_lines<S: Sink>(heap: Global, text: &[u8], sink: &mut S) -> Result<(), Stopped<S::Error>>
+    requires { length text.now ≤ 16384 }
+    ensures ok { OnOk result
+        (AnswersText S.with_one (S.got sink.old) (S.got sink.new) text.now) }
+    ensures err { OnErr result
+        (BeginsText S.with_one (S.got sink.old) (S.got sink.new) text.now) }
+{
+    let mut script = Script::new(heap);
+    let mut lines = Pieces::new(text, b'\n');
+    while let Some(line) = lines.next() {
+        if lines.is_done() {
+            take_rest(line, sink)?;
+        } else {
+            script.line(line, sink)?;
+        }
+    }
+    Ok(())
+}
+
+// Answers what stands behind the last byte 10: a line cut short, unless nothing stands there.
+fn take_rest<S: Sink>(rest: &[u8], sink: &mut S) -> Result<(), Stopped<S::Error>>
+    ensures nothing { rest.now ≡ [] → S.got sink.new ≡ S.got sink.old }
+    ensures cut_short { rest.now ≢ [] → OnOk result (S.got sink.new
+        ≡ S.with_one (S.got sink.old) (LineReply.Refused Refusal.BadLine)) }
+    ensures err { OnErr result (S.got sink.new ≡ S.got sink.old) }
+{
+    if rest.is_empty() {
+        return Ok(());
+    }
+    give(sink, LineReply::Refused(Refusal::BadLine))
 }

@@ -1,62 +1,70 @@
-ghost use Rattle.script.specs.Replies.{written};
-ghost use Rattle.script.specs.States.{Says, reply_to};
+ghost use Rattle.board.specs.Log.{reply_of};
 ghost use Rattle.readings.specs.Refusals.{refusal_of};
+ghost use Rattle.script.specs.Replies.{board_said, is_refused, plan_said, said_of};
+ghost use Rattle.script.specs.Written.{written};
 ghost use Rattle.std.specs.Prelude.{◌≡◌, Some};
 
-use board::call;
-use readings::refusal::Refusal;
+use board::call::Grant;
+use readings::Refusal;
 use std::fmt;
 
-// What a line or a tick is answered with.
+/// What one line of output says.
 #[derive(Clone, Copy, PartialEq, Eq, Debug)]
-pub enum Reply {
-    // the line of a plan, done
+pub enum LineReply {
+    /// What the line of a plan asks for is done.
     Done,
-    // a granted call of the board
-    Granted(call::Reply),
-    // a line or a call, refused
+    /// A call of the board is granted.
+    Granted(Grant),
+    /// The line of a plan or a call of the board is refused.
     Refused(Refusal),
-    // a line of ticks, which are then answered one by one
-    Quiet,
 }
 
-impl From<Result<(), Refusal>> for Reply {
-    ghost from_gives = { λ done reply. Says (refusal_of done) reply };
+impl LineReply {
+    /// Whether this is a refusal.
+    pub fn is_refused(&self) -> bool
+        ensures { result ≡ is_refused (said_of self.now) }
+    {
+        matches!(self, LineReply::Refused(_))
+    }
+}
 
-    // The reply to the line of a plan.
-    fn from(done: Result<(), Refusal>) -> Reply {
-        match done {
-            Ok(()) => Reply::Done,
-            Err(refusal) => Reply::Refused(refusal),
+impl From<Result<(), Refusal>> for LineReply {
+    ghost from_gives = { λ drafted reply. said_of reply ≡ plan_said (refusal_of drafted) };
+
+    /// The reply to the line of a plan.
+    fn from(drafted: Result<(), Refusal>) -> LineReply {
+        match drafted {
+            Ok(()) => LineReply::Done,
+            Err(refusal) => LineReply::Refused(refusal),
         }
     }
 }
 
-impl From<Result<call::Reply, Refusal>> for Reply {
-    ghost from_gives = { λ answer reply. reply ≡ reply_to answer };
+impl From<Result<Grant, Refusal>> for LineReply {
+    ghost from_gives = { λ answer reply. said_of reply ≡ board_said (reply_of (λ g. g) answer) };
 
-    // The reply to a call.
-    fn from(answer: Result<call::Reply, Refusal>) -> Reply {
+    /// The reply to a call of the board.
+    fn from(answer: Result<Grant, Refusal>) -> LineReply {
         match answer {
-            Ok(reply) => Reply::Granted(reply),
-            Err(refusal) => Reply::Refused(refusal),
+            Ok(grant) => LineReply::Granted(grant),
+            Err(refusal) => LineReply::Refused(refusal),
         }
     }
 }
 
-// The line that is written, with the byte that ends it; nothing for a line of ticks.
-impl fmt::Display for Reply {
-    ghost output = { λ r. Some (written r) };
+/// The line as it is written, with the byte that ends it.
+impl fmt::Display for LineReply {
+    ghost output = { λ r. Some (written (said_of r)) };
 
     fn fmt<W: fmt::Write>(&self, f: &mut fmt::Formatter<W>) -> fmt::Result {
         match self {
-            Reply::Done => writeln!(f, "ok"),
-            Reply::Granted(call::Reply::Started(it)) => writeln!(
+            LineReply::Done => writeln!(f, "ok"),
+            LineReply::Granted(Grant::Started(it)) => writeln!(
                 f,
                 "start {} {}",
                 it.mark, it.length
             ),
-            Reply::Granted(call::Reply::Ticked(it)) => writeln!(
+            LineReply::Granted(Grant::Ticked(it)) => writeln!(
                 f,
                 "{} {} {} {}",
                 it.sampled,
@@ -64,14 +72,13 @@ impl fmt::Display for Reply {
                 it.shown,
                 u8::from(it.crossed)
             ),
-            Reply::Granted(call::Reply::Switched(ticks)) => writeln!(f, "switch {ticks}"),
-            Reply::Granted(call::Reply::Shown(it)) if it.value => {
+            LineReply::Granted(Grant::Switched(ticks)) => writeln!(f, "switch {ticks}"),
+            LineReply::Granted(Grant::Shown(it)) if it.value => {
                 writeln!(f, "show {} {}", it.age, it.validity)
             }
-            Reply::Granted(call::Reply::Shown(_)) => writeln!(f, "show none"),
-            Reply::Granted(call::Reply::Stopped) => writeln!(f, "ok"),
-            Reply::Refused(refusal) => writeln!(f, "{refusal}"),
-            Reply::Quiet => Ok(()),
+            LineReply::Granted(Grant::Shown(_)) => writeln!(f, "show none"),
+            LineReply::Granted(Grant::Stopped) => writeln!(f, "ok"),
+            LineReply::Refused(refusal) => writeln!(f, "{refusal}"),
         }
     }
 }

@@ -1,144 +1,123 @@
-ghost use Rattle.script.specs.Boards.{banked, bank_position};
-ghost use Rattle.script.specs.Deeds.{calls, deed, deed_of, plan_at, ticks, with_plan};
-ghost use Rattle.board.specs.Asks.{said, start, switch};
-ghost use Rattle.script.specs.Places.{out_of_place};
-ghost use Rattle.script.specs.States.{Does, State, TicksOn, at_first, left_after};
-ghost use Rattle.script.specs.Stands.{DeedStuck, LineStuck, Stands, drafting_of, left_of};
-ghost use Rattle.std.specs.Prelude.{◌≡◌, ℕ, ◌+◌, ◌-◌, ◌<◌, ◌≤◌, Ok, Err, Some, None};
-
 use crate::drafts::Drafts;
-use crate::reply::Reply;
-use board::board::Board;
-use board::call;
+use crate::reply::LineReply;
+use crate::sink::{Sink, Stopped, give};
+use board::Board;
 use board::call::Call;
-use lines::command::Command;
-use periodic::periodic::Periodic;
-use policy::bank::Bank;
-use readings::refusal::Refusal;
+use lines::{CallLine, Command, PlanLine};
+use periodic::Periodic;
+use policy::{Bank, Policy};
+use readings::Refusal;
 use std::alloc::{AllocError, Global};
 
-// A script between two of its answers.
+/// A script between two of its lines: what has been written of its plans, and the board that it
+/// calls.
 #[derive(Drop)]
 pub struct Script {
     drafts: Drafts,
     // whether the board has been called
     called: bool,
-    // the ticks that are left of the last line
-    left: u16,
     board: Board<Bank<Periodic, Periodic>>,
 }
 
-// The ticks that are left after one of these: none where it was refused.
-fn left_after(left: u16, answer: &Result<call::Reply, Refusal>) -> u16
-    ensures { result ≡ left_after (left - 1) answer.now }
-{
-    if answer.is_ok() {
-        left.saturating_sub(1)
-    } else {
-        0
-    }
-}
-
 impl Script {
-    // A script before its first line.
+    ghost use Rattle.board.specs.History.{History, no_history};
+    ghost use Rattle.board.specs.Requests.{request_of};
+    ghost use Rattle.script.specs.Calls.{CallAnswered, CallLineAnswered};
+    ghost use Rattle.script.specs.Drafting.{line_drafted};
+    ghost use Rattle.script.specs.Held.{LineFindsNoRoom, NoRoom, drafting_of, state_of};
+    ghost use Rattle.script.specs.Lines.{CommandAnswered, LineAnswered};
+    ghost use Rattle.script.specs.Sinks.{GivesAll, GivesOne, GivesSome};
+    ghost use Rattle.script.specs.States.{Tallied, first_state};
+    ghost use Rattle.script.specs.Stops.{IfMemory, IfSink};
+    ghost use Rattle.std.specs.Prelude.{◌≡◌, false, IfErr, IfOk, OnErr, OnOk};
+
+    /// A script before its first line.
     pub fn new(heap: Global) -> Script
-        ensures { Stands at_first result }
+        ensures state { state_of result no_history ≡ first_state }
+        ensures tallied { Tallied (state_of result no_history) }
     {
         Script {
             drafts: Drafts::new(heap),
             called: false,
-            left: 0,
             board: Board::new(),
         }
     }
 
-    // Takes a line, given without the byte that ends it. Memory fails only where the line adds a reading and there is no room
-    // for it, and then nothing has changed. A refusal is an answer and stands in the `Ok`, so that a caller's `?` hands on
-    // want of memory alone.
-    pub fn line(&mut self, line: &[u8]) -> Result<Reply, AllocError>
-        ensures { (s : State) → Stands s self.old → elim result [
-          | Ok reply ↦ (u : State) × Does (deed line.now s.called s.drafts) s reply u × Stands u self.new
-          | Err e ↦ Stands s self.new × LineStuck self.old line.now
-        ] }
+    /// Answers a line, given without the byte that ends it: hands the sink a reply to each tick of
+    /// a line of ticks, up to the first that is refused, and one reply to any other line. Memory
+    /// fails only where the line adds a reading and there is no room for it, and then nothing has
+    /// changed. Where the sink fails it has got a beginning of the replies, and the script may have
+    /// done more of the line than that.
+    pub fn line<S: Sink>(&mut self, line: &[u8], sink: &mut S) -> Result<(), Stopped<S::Error>>
+        ensures ok { OnOk result ((h : History) → Tallied (state_of self.old h)
+            → GivesAll S.with_one (S.got sink.old) (S.got sink.new)
+            (LineAnswered line.now) h self.old self.new) }
+
+        ensures no_room { IfErr result (λ e. IfMemory e (LineFindsNoRoom line.now self.old)) }
+        ensures unchanged { IfErr result (λ e. IfMemory e ((h : History)
+            → state_of self.new h ≡ state_of self.old h)) }
+        ensures nothing_got { IfErr result (λ e. IfMemory e (S.got sink.new ≡ S.got sink.old)) }
+
+        ensures begun { IfErr result (λ e. IfSink e ((h : History) → Tallied (state_of self.old h)
+            → GivesSome S.with_one (S.got sink.old) (S.got sink.new)
+            (LineAnswered line.now) h self.old)) }
     {
         match Command::of(line) {
-            None => Ok(Reply::Refused(Refusal::Line)),
-            Some(command) => self.obey(command),
-        }
-    }
-
-    // The next of the ticks that are left of the last line, or none where none is. A tick that is refused is the last.
-    pub fn tick(&mut self) -> Option<Reply>
-        ensures leaves { elim result [
-          | None ↦ self.new ≡ self.old
-          | Some reply ↦ (left_of self.new < left_of self.old) × (left_of self.old ≤ 65535)
-        ] }
-        ensures ticks { (s : State) → Stands s self.old → elim result [
-          | None ↦ s.left ≡ 0
-          | Some reply ↦ (n : ℕ) × (s.left ≡ n + 1) × (u : State) × TicksOn n s reply u × Stands u self.new
-        ] }
-    {
-        if self.left == 0 {
-            return None;
-        }
-        let answer = self.board.tick().map(call::Reply::Ticked);
-        self.left = left_after(self.left, &answer);
-        Some(Reply::from(answer))
-    }
-
-    // Does what a command asks for.
-    fn obey(&mut self, command: Command) -> Result<Reply, AllocError>
-        ensures { (s : State) → Stands s self.old → elim result [
-          | Ok reply ↦ (u : State) × Does (deed_of command s.called s.drafts) s reply u × Stands u self.new
-          | Err e ↦ Stands s self.new × DeedStuck self.old.drafts (deed_of command self.old.called (drafting_of self.old.drafts))
-        ] }
-    {
-        if self.is_out_of_place(command) {
-            return Ok(Reply::Refused(Refusal::Line));
-        }
-        match command {
-            Command::Plan | Command::Reading { .. } | Command::Half | Command::More => {
-                Ok(self.drafts.write(command)?.into())
+            None => give(sink, LineReply::Refused(Refusal::BadLine)),
+            Some(Command::Plan(line)) => {
+                let reply = self.plan_line(line)?;
+                give(sink, reply)
             }
-            Command::Start { plan } => Ok(self.start(plan)),
-            Command::Tick { ticks } => Ok(self.ask_ticks(ticks)),
-            Command::Switch { plan, latency } => Ok(self.switch(plan, latency)),
-            Command::Show { id } => Ok(self.call(&Call::Show { id })),
-            Command::Stop => Ok(self.call(&Call::Stop)),
+            Some(Command::Call(line)) => self.call_line(line, sink).map_err(Stopped::Sink),
         }
     }
 
-    // Whether a command is out of place: the line of a plan once the board has been called, and a call while a plan is being
-    // written.
-    fn is_out_of_place(&self, command: Command) -> bool
-        ensures { result ≡ out_of_place command self.now.called (drafting_of self.now.drafts).writing }
+    // Answers the line of a plan. Memory fails only where it adds a reading and there is no room
+    // for it, and then nothing has changed.
+    fn plan_line(&mut self, line: PlanLine) -> Result<LineReply, AllocError>
+        ensures ok { IfOk result (λ reply. (h : History) → Tallied (state_of self.old h)
+            → GivesOne (CommandAnswered (Command.Plan line)) h self.old reply self.new) }
+        ensures in_place { OnErr result (self.old.called ≡ false) }
+        ensures no_room { OnErr result
+            (NoRoom (line_drafted line (drafting_of self.old.drafts)) self.old.drafts) }
+        ensures unchanged { OnErr result ((h : History)
+            → state_of self.new h ≡ state_of self.old h) }
     {
-        match command {
-            Command::Plan | Command::Reading { .. } | Command::Half | Command::More => self.called,
-            Command::Start { .. }
-            | Command::Tick { .. }
-            | Command::Switch { .. }
-            | Command::Show { .. }
-            | Command::Stop => self.drafts.is_writing(),
+        if self.called {
+            return Ok(LineReply::Refused(Refusal::BadLine));
         }
+        Ok(self.drafts.write(line)?.into())
     }
 
-    // Calls the board.
-    fn call(&mut self, call: &Call<Bank<Periodic, Periodic>>) -> Reply
-        ensures { (s : State) → Stands s self.old → (u : State) × Does (calls (said bank_position call.now)) s result u × Stands u self.new }
+    // Answers a call of the board.
+    fn call_line<S: Sink>(&mut self, line: CallLine, sink: &mut S) -> Result<(), S::Error>
+        ensures ok { OnOk result ((h : History) → Tallied (state_of self.old h)
+            → GivesAll S.with_one (S.got sink.old) (S.got sink.new)
+            (CommandAnswered (Command.Call line)) h self.old self.new) }
+        ensures begun { OnErr result ((h : History) → Tallied (state_of self.old h)
+            → GivesSome S.with_one (S.got sink.old) (S.got sink.new)
+            (CommandAnswered (Command.Call line)) h self.old) }
     {
-        self.called = true;
-        self.board.ask(call).into()
+        if self.drafts.is_writing() {
+            return sink.take(LineReply::Refused(Refusal::BadLine));
+        }
+        match line {
+            CallLine::Start { plan } => sink.take(self.start(plan)),
+            CallLine::Tick { ticks } => self.ticks(ticks, sink),
+            CallLine::Switch { plan, latency } => sink.take(self.switch(plan, latency)),
+            CallLine::Show { id } => sink.take(self.call(&Call::Show { id })),
+            CallLine::Stop => sink.take(self.call(&Call::Stop)),
+        }
     }
 
     // Runs the plan of a number.
-    fn start(&mut self, number: u16) -> Reply
-        ensures { (s : State) → Stands s self.old → (u : State)
-            × Does (with_plan (λ plan. start plan.list (banked plan.policy)) (plan_at number s.drafts) s.drafts) s result u
-            × Stands u self.new }
+    fn start(&mut self, number: u16) -> LineReply
+        ensures { (h : History) → Tallied (state_of self.old h)
+            → GivesOne (CallLineAnswered (CallLine.Start number))
+            h self.old result self.new }
     {
         match self.drafts.plan(number) {
-            None => Reply::Refused(Refusal::Plan),
+            None => LineReply::Refused(Refusal::NoPlan),
             Some(plan) => self.call(&Call::Start {
                 list: plan.list,
                 policy: plan.bank(),
@@ -147,13 +126,13 @@ impl Script {
     }
 
     // Has the plan of a number cross in, at most so many ticks from now.
-    fn switch(&mut self, number: u16, latency: u16) -> Reply
-        ensures { (s : State) → Stands s self.old → (u : State)
-            × Does (with_plan (λ plan. switch plan.list (banked plan.policy) latency) (plan_at number s.drafts) s.drafts) s result u
-            × Stands u self.new }
+    fn switch(&mut self, number: u16, latency: u16) -> LineReply
+        ensures { (h : History) → Tallied (state_of self.old h)
+            → GivesOne (CallLineAnswered (CallLine.Switch number latency))
+            h self.old result self.new }
     {
         match self.drafts.plan(number) {
-            None => Reply::Refused(Refusal::Plan),
+            None => LineReply::Refused(Refusal::NoPlan),
             Some(plan) => self.call(&Call::Switch {
                 list: plan.list,
                 policy: plan.bank(),
@@ -162,12 +141,34 @@ impl Script {
         }
     }
 
-    // Notes that so many ticks are asked for.
-    fn ask_ticks(&mut self, count: u16) -> Reply
-        ensures { (s : State) → Stands s self.old → (u : State) × Does (ticks count) s result u × Stands u self.new }
+    // So many ticks, a reply each; a refused one is the last.
+    fn ticks<S: Sink>(&mut self, count: u16, sink: &mut S) -> Result<(), S::Error>
+        ensures ok { OnOk result ((h : History) → Tallied (state_of self.old h)
+            → GivesAll S.with_one (S.got sink.old) (S.got sink.new)
+            (CallLineAnswered (CallLine.Tick count)) h self.old self.new) }
+        ensures begun { OnErr result ((h : History) → Tallied (state_of self.old h)
+            → GivesSome S.with_one (S.got sink.old) (S.got sink.new)
+            (CallLineAnswered (CallLine.Tick count)) h self.old) }
     {
         self.called = true;
-        self.left = count;
-        Reply::Quiet
+        let call = Call::Tick;
+        for tick in 0..count {
+            let reply = self.call(&call);
+            sink.take(reply)?;
+            if reply.is_refused() {
+                return Ok(());
+            }
+        }
+        Ok(())
+    }
+
+    // Calls the board.
+    fn call(&mut self, call: &Call<Bank<Periodic, Periodic>>) -> LineReply
+        ensures { (h : History) → Tallied (state_of self.old h)
+            → GivesOne (CallAnswered (request_of ⟦<Bank<Periodic, Periodic> as Policy>⟧ call.now))
+            h self.old result self.new }
+    {
+        self.called = true;
+        self.board.ask(call).into()
     }
 }

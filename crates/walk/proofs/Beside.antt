@@ -5,7 +5,7 @@ use Rattle.std.proofs.lemmas.Bool.{both_ways, cases_Bool, cases_eq, cases_lt}
 use Rattle.readings.specs.declared.reading.Reading.{Reading}
 use Rattle.policy.specs.Course.{Answer, Course, names}
 use Rattle.books.specs.Rows.{closed, closed_by, come_on, grown, opened, ran}
-use Rattle.books.specs.Slots.{judged, turned, worked}
+use Rattle.books.specs.Slots.{judged, row_after, worked}
 use Rattle.books.specs.declared.row.Job.{Job}
 use Rattle.books.specs.declared.row.Row.{Row}
 use Rattle.books.proofs.Keeps.{work_keeps}
@@ -50,13 +50,13 @@ counts_on : (from n : ℕ) (was : Bool) (old t : ℕ) → MatchBool was (t ≡ o
 counts_on from n true old t h = omega arith
 counts_on from n false old t h = omega arith
 
-turn_beside : (a : Answer) (k from n : ℕ) (w x : Row) → Beside from n w x → Beside from (n + 1) (turned a k w) (turned a k x)
-turn_beside a k from n w x b =
+slot_beside : (a : Answer) (k from n : ℕ) (w x : Row) → Beside from n w x → Beside from (n + 1) (row_after a k w) (row_after a k x)
+slot_beside a k from n w x b =
     let v : Row = worked a k w in
     let keeps = work_keeps a k w in
     let same : worked a k x ≡ with_age v b.shown b.age = ap (worked a k) b.is ∙ worked_beside a k w b.shown b.age in
     let h : MatchBool v.shown (b.age ≡ v.age) (b.age ≡ from + n) = rw (keeps.shown, keeps.age) b.counts in
-    subst (λ (y : Row). Beside from (n + 1) (turned a k w) (closed (grown y))) (sym same)
+    subst (λ (y : Row). Beside from (n + 1) (row_after a k w) (closed (grown y))) (sym same)
     (close_beside from (n + 1) v.reading v.shown (v.age + 1) (grown v).job b.shown (b.age + 1) (counts_on from n v.shown v.age b.age h))
 
 begins : (d : Reading) (o : Option Row) → Beside (carry d o).age 0 (come_on d) (carry d o)
@@ -66,7 +66,7 @@ begins d (Some r) = record { shown = r.shown; age = r.age; is = refl; counts = o
 pub beside_at : (c : Course) (k : ℕ) (d : Reading) (o : Option Row) (n : ℕ) → Beside (carry d o).age n (row_at c k (come_on d) n) (row_at c k (carry d o) n)
 beside_at c k d o zero = begins d o
 beside_at c k d o (suc n) =
-    rw (← add-one) (turn_beside (c n) k (carry d o).age n (row_at c k (come_on d) n) (row_at c k (carry d o) n) (beside_at c k d o n))
+    rw (← add-one) (slot_beside (c n) k (carry d o).age n (row_at c k (come_on d) n) (row_at c k (carry d o) n) (beside_at c k d o n))
 
 closed_reading : (r : Row) (o : Option Job) → (closed_by r o).reading ≡ r.reading
 closed_reading r None = refl

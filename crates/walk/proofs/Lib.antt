@@ -1,7 +1,8 @@
 mod Beside
-pub mod Calm
 pub mod Crossing
 pub mod Ends
+pub mod Faultless
 mod Finishing
 pub mod Looking
+pub mod Looping
 pub mod Walking

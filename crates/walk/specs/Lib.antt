@@ -1,6 +1,9 @@
 pub mod Steps
+pub mod StepLaws
 pub mod Walks
+pub mod Searches
 pub mod Finishes
+pub mod Acceptance
+pub mod Loops
 pub mod Plans
 pub mod Crossings
-pub mod Walking

@@ -1,41 +1,53 @@
-use Rattle.std.proofs.Common.{List, length, sym, ap, ◌∙◌, subst, rules}
+use Rattle.std.proofs.Common.{◌<◌, length, sym, ap, ◌∙◌, subst, arith, length-set}
 use Rattle.std.proofs.lemmas.Result.{err_from_is_err_and}
-use Rattle.readings.specs.Firsts.{first_of}
 use Rattle.readings.specs.Lists.{rows_of as readings_of}
-use Rattle.readings.specs.Ranges.{WellMade}
+use Rattle.readings.specs.Ranges.{WellMade, blank}
 use Rattle.readings.specs.declared.reading.Reading.{Reading}
-use Rattle.books.specs.Crossings.{carry, late_fault}
+use Rattle.books.specs.Crossings.{carry, crossed}
 use Rattle.books.specs.Fresh.{Fresh}
 use Rattle.books.specs.Held.{rows_of}
 use Rattle.books.specs.Lookups.{row_of}
-use Rattle.books.specs.Parts.{Spare}
 use Rattle.books.specs.declared.row.Row.{Row}
-use Rattle.books.proofs.Crossing.{all_crossed, crossed_fresh}
-use Rattle.books.proofs.Keeps.{fresh_spare}
+use Rattle.books.proofs.Crossing.{crossed_fresh, fault_of}
+use Rattle.policy.proofs.Filled.{filled_all, filled_more}
 use Rattle.books.proofs.books.Books.cross.Goals as goal
 
-pub returns-in_err-check_late : goal.returns-in_err-check_late
-returns-in_err-check_late c =
+pub loop-k-preserved : goal.loop-k-preserved
+loop-k-preserved c =
     let old = rows_of c.args.self.now in
+    let inside : c.loop-k.k < length c.loop-k.rows = omega (arith, c.rows-given.ensures.law.few, c.loop-k.invariant.long) in
     let over : Reading → Row = λ d. carry d (row_of old d.id) in
-    let e = all_crossed old c.rows.result.now _ _ c.rows.ensures.law c.rows.ensures.value (c.of-rows.ensures.rows over (λ x r s. search rules)) in
-    let p = err_from_is_err_and c.from_residual.result c.from_residual.ensures.1 in
-    rw (p.1, p.2) (ap (λ (rs : List Row). first_of (late_fault rs) 0 (length rs)) (sym (c.as_slice.ensures.rows ∙ e)) ∙ sym c.in_err-check_late.ensures)
+    record {
+      filled = filled_more over c.loop-k.rows c.rows-given.result.now c.loop-k.k blank c.carry.result c.loop-k-test.true inside c.loop-k.invariant.filled
+          (c.carry.ensures ∙ ap (carry _) c.find.ensures);
+      long = length-set c.loop-k.rows c.loop-k.k c.carry.result ∙ c.loop-k.invariant.long;
+    }
 
-pub invariant_of-result : goal.invariant_of-result
-invariant_of-result c =
+pub returns-in_err-check_late-clause-err : goal.returns-in_err-check_late-clause-err
+returns-in_err-check_late-clause-err c =
     let old = rows_of c.args.self.now in
     let over : Reading → Row = λ d. carry d (row_of old d.id) in
-    let e = all_crossed old c.rows.result.now _ _ c.rows.ensures.law c.rows.ensures.value (c.of-rows.ensures.rows over (λ x r s. search rules)) in
-    let f = crossed_fresh old (readings_of c.args.list.now) (subst WellMade c.rows.ensures.value c.rows.ensures.law)
-    (ap (λ (rs : List Row). first_of (late_fault rs) 0 (length rs)) (sym (c.as_slice.ensures.rows ∙ e)) ∙ sym c.in_ok-check_late.ensures) in
-    record { fresh = subst Fresh (sym e) f; spare = subst (λ (rs : List Row). Spare rs 0) (sym e) (fresh_spare _ f) }
+    let e = filled_all over c.loop-k.rows c.rows-given.result.now c.loop-k.k c.loop-k-test.false c.loop-k.auto.k-end c.loop-k.invariant.filled ∙ ap (crossed old) c.rows-given.ensures.value in
+    let p = err_from_is_err_and c.from_residual.result c.from_residual.ensures.1 in
+    rw (p.1, p.2) (fault_of old _ _ _ e c.in_err-check_late.ensures)
+
+pub of-requires-clause-fresh : goal.of-requires-clause-fresh
+of-requires-clause-fresh c =
+    let old = rows_of c.args.self.now in
+    let given = readings_of c.args.list.now in
+    let over : Reading → Row = λ d. carry d (row_of old d.id) in
+    let e = filled_all over c.loop-k.rows c.rows-given.result.now c.loop-k.k c.loop-k-test.false c.loop-k.auto.k-end c.loop-k.invariant.filled ∙ ap (crossed old) c.rows-given.ensures.value in
+    subst Fresh (sym e)
+    (crossed_fresh old given (subst WellMade c.rows-given.ensures.value c.rows-given.ensures.law) (fault_of old given _ _ e c.in_ok-check_late.ensures))
 
 pub returns : goal.returns
 returns c =
     let old = rows_of c.args.self.now in
+    let given = readings_of c.args.list.now in
     let over : Reading → Row = λ d. carry d (row_of old d.id) in
-    let e = all_crossed old c.rows.result.now _ _ c.rows.ensures.law c.rows.ensures.value (c.of-rows.ensures.rows over (λ x r s. search rules)) in (
-      ap (λ (rs : List Row). first_of (late_fault rs) 0 (length rs)) (sym (c.as_slice.ensures.rows ∙ e)) ∙ sym c.in_ok-check_late.ensures,
-      e,
-    )
+    let e = filled_all over c.loop-k.rows c.rows-given.result.now c.loop-k.k c.loop-k-test.false c.loop-k.auto.k-end c.loop-k.invariant.filled ∙ ap (crossed old) c.rows-given.ensures.value in
+    record {
+      ok = c.of.ensures ∙ e;
+      faultless = fault_of old given _ _ e c.in_ok-check_late.ensures;
+      err = tt;
+    }

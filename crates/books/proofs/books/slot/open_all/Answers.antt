@@ -4,5 +4,5 @@ use Rattle.books.proofs.Each.{each_same}
 use Rattle.books.proofs.Named.{not_sampled}
 use Rattle.books.proofs.books.slot.open_all.Goals as goal
 
-pub returns-then-answer-eq0 : goal.returns-then-answer-eq0
-returns-then-answer-eq0 c = sym (each_same (sampled c.args.answer) 0 c.args.rows.now (not_sampled c.args.answer c.if-answer-eq0.true))
+pub returns-then-samples-eq0 : goal.returns-then-samples-eq0
+returns-then-samples-eq0 c = sym (each_same (sampled c.args.samples) 0 c.args.rows.now (not_sampled c.args.samples c.if-samples-eq0.true))

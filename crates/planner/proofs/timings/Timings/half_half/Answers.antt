@@ -1,14 +1,13 @@
-use Rattle.std.proofs.Common.{ap, ◌∙◌, subst, sym, rules}
-use Rattle.planner.specs.Periods.{half_half, half_timed}
+use Rattle.std.proofs.Common.{◌≡◌, map, sym, ap, ◌∙◌, subst}
+use Rattle.std.proofs.lemmas.List.{take_all}
+use Rattle.rows.specs.Held.{rows_of as held}
+use Rattle.planner.specs.Periods.{half_half, half_timing}
 use Rattle.planner.specs.Timing.{WellTimed}
-use Rattle.planner.proofs.Positive.{all_halves, halves}
+use Rattle.planner.proofs.Positive.{halves}
 use Rattle.planner.proofs.timings.Timings.half_half.Goals as goal
 
 pub invariant_of-result : goal.invariant_of-result
 invariant_of-result c =
-    let given = c.rows.result.now in
-    let law = c.rows.ensures.law in
-    record { law = subst WellTimed (sym (all_halves given _ law (c.of.ensures.rows half_timed (λ x r s. search rules)))) (halves given law) }
-
-pub returns : goal.returns
-returns c = all_halves c.rows.result.now _ c.rows.ensures.law (c.of.ensures.rows half_timed (λ x r s. search rules)) ∙ ap half_half c.rows.ensures.value
+    let given = c.rows-reading-items.result.now in
+    let all : held c.loop-reading.rows ≡ half_half given = c.loop-reading.invariant.made ∙ ap (map half_timing) (take_all c.loop-reading.reading-index given c.loop-reading-test.false) in
+    record { law = subst WellTimed (sym all) (halves given c.rows-reading-items.ensures.law) }

@@ -1,5 +1,0 @@
-use Rattle.periodic.proofs.Samples.{SampledBelow}
-use Rattle.periodic.proofs.periodic.kind.sample.Given as goal
-
-abbrev pub invariant-loop-k : goal.invariant-loop-k
-invariant-loop-k l = SampledBelow l.k l.initial.rows l.mask l.rows

@@ -1,7 +1,0 @@
-use Rattle.std.proofs.Common.{length}
-use Rattle.readings.specs.Lists.{refusal_at}
-use Rattle.readings.proofs.Firsts.{NoneBelow}
-use Rattle.readings.proofs.list.make.check_rows.Given as goal
-
-abbrev pub invariant-loop-k : goal.invariant-loop-k
-invariant-loop-k l = NoneBelow (refusal_at l.rows) (length l.rows) l.k
