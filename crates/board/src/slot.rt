@@ -81,6 +81,9 @@ pub(crate) fn come_nearer<P: Policy>(waiting: &mut Option<Waiting<P>>) -> Option
     ensures later { IfNone result
         (waiting_of waiting.new ≡ option_map nearer (waiting_of waiting.old)) }
 {
+    if waiting.is_none() {
+        return None;
+    }
     let Waiting { ticks, plan } = waiting.take()?;
     let left = ticks - 1;
     if left == 0 {

@@ -1,6 +1,11 @@
 mod Contents
 mod Gives
+mod Made
+mod Making
 mod Only
 mod Periods
 mod Running
+mod Samples
+mod StripOnly
+mod StripRunning
 mod Walked

@@ -40,7 +40,7 @@ module _ {Pos : Type 0} (kind : Meaning Pos) (p : Pos) (ds : List Reading) (x : 
   one : (y : Outcome) → Walks kind p (new_books ds) y → ending_of y ≡ ending_of x
   one y v = ap ending_of (walks_one kind p (new_books ds) y x v w)
 
-  walk_only : (e : Result Ending Refusal) → WalkGives kind p ds e → e ≡ ending_of x
+  pub walk_only : (e : Result Ending Refusal) → WalkGives kind p ds e → e ≡ ending_of x
   walk_only (Ok (Granted mark length)) v = one (granted mark length) v
   walk_only (Err r) v =
       ap Err (sym (refusal_with-content r)) ∙ one (refused (content r)) v

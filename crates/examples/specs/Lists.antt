@@ -31,6 +31,14 @@ readings_w = reading 7 1 6 ∷ reading 9 2 9 ∷ reading 12 2 20 ∷ []
 abbrev pub readings_u : List Reading
 readings_u = reading 9 2 4 ∷ []
 
+-- list T, three rows alike
+abbrev pub readings_t : List Reading
+readings_t = reading 7 1 4 ∷ reading 8 1 4 ∷ reading 9 1 4 ∷ []
+
+-- list S, of one row
+abbrev pub readings_s : List Reading
+readings_s = reading 7 1 2 ∷ []
+
 -- new books for a list: all of its rows come on
 abbrev pub new_books : List Reading → List Row
 new_books ds = map come_on ds

@@ -1,6 +1,8 @@
-use crate::candidates::Candidates;
+use crate::candidates::{Candidates, StripCandidates};
 use crate::exchange::Exchange;
+use crate::lists::list_x;
 use crate::runs;
+use crate::strips::strip_on;
 use crate::written::{AsExpected, WrittenReply};
 use anyhow::anyhow;
 use board::Board;
@@ -23,7 +25,8 @@ pub(crate) fn write_runs<W: Write>(out: &mut W, heap: Global) -> anyhow::Result<
         heap,
         "a stop while a crossing waits, and further days",
         &runs::further_days(&candidates),
-    )
+    )?;
+    write_strip_run(out, heap)
 }
 
 // Writes the runs of other kinds of policy.
@@ -71,6 +74,23 @@ fn write_crossings<W: Write>(
         heap,
         "X crosses to W in twelve ticks, and never to U",
         &runs::crossing_late(candidates),
+    )
+}
+
+// Writes the run with a strip, which is laid in a memory here.
+fn write_strip_run<W: Write>(out: &mut W, heap: Global) -> anyhow::Result<()> {
+    let mut memory = [0; 89];
+    let strip = list_x()
+        .and_then(|x| strip_on(&x, &mut memory, 89))
+        .map_err(|refusal| anyhow!("the strip of the runs: {refusal}"))?;
+    let candidates = StripCandidates::new(&strip).map_err(|refusal| anyhow!(
+        "a candidate of the runs: {refusal}"
+    ))?;
+    write_run(
+        out,
+        heap,
+        "X by deferrable scheduling crosses to X by More-Less in seven ticks",
+        &runs::crossing_from_strip(&candidates),
     )
 }
 

@@ -5,6 +5,7 @@ use periodic::Periodic;
 use policy::Bank;
 use readings::{Readings, Refusal};
 use std::fmt;
+use strip::{ClosedStrip, Player};
 
 /// A list and a policy for it, with the name that they go by.
 #[derive(Drop)]
@@ -79,4 +80,29 @@ impl Candidates {
 // A bank of this policy and one that never samples or runs, which uses the one with this number.
 fn pair(first: Periodic, used: u8) -> Pair {
     Bank::new(first, Inactive, used)
+}
+
+/// A bank of a policy by More-Less and a player of a strip.
+pub type MoreLessOrStrip<'s> = Bank<Periodic, Player<'s>>;
+
+/// List X by each policy of a bank, for a run with a strip.
+#[derive(Drop)]
+pub struct StripCandidates<'s> {
+    /// List X by the first policy, More-Less.
+    pub more_less: Candidate<MoreLessOrStrip<'s>>,
+    /// List X by the second policy, which plays a strip that was laid by deferrable scheduling.
+    pub deferrable: Candidate<MoreLessOrStrip<'s>>,
+}
+
+impl<'s> StripCandidates<'s> {
+    // Both, by a strip of X; neither is refused.
+    pub(crate) fn new(strip: &'s ClosedStrip<'_>) -> Result<StripCandidates<'s>, Refusal> {
+        let x = strip.list();
+        let of_x = more_less_policy(&x)?;
+        let player = Player::new(strip);
+        Ok(StripCandidates {
+            more_less: Candidate::new("X by More-Less", x, Bank::new(of_x, player, 1)),
+            deferrable: Candidate::new("X by deferrable scheduling", x, Bank::new(of_x, player, 2)),
+        })
+    }
 }

@@ -21,6 +21,15 @@ pub enum Ending {
     },
     /// A test said yes or no.
     Says(bool),
+    /// A strip was closed to a loop.
+    Loop {
+        /// The first slot of the loop.
+        first: u16,
+        /// The last slot inside the loop.
+        last: u16,
+    },
+    /// Five slots.
+    Slots(u16, u16, u16, u16, u16),
 }
 
 impl fmt::Display for Ending {
@@ -35,6 +44,11 @@ impl fmt::Display for Ending {
             Ending::Judged { age, shown: None } => write!(f, "age {age} fresh"),
             Ending::Says(true) => write!(f, "yes"),
             Ending::Says(false) => write!(f, "no"),
+            Ending::Loop { first, last } => write!(f, "loop {first} to {last}"),
+            Ending::Slots(first, second, third, fourth, fifth) => write!(
+                f,
+                "{first}, {second}, {third}, {fourth}, {fifth}"
+            ),
         }
     }
 }

@@ -187,8 +187,9 @@ pub fn more_less_policy(list: &Readings) -> Result<Periodic, Refusal>
     Ok(Periodic::new(&Timings::more_less(list)?))
 }
 
-// The mark and the length of the walk of a policy with new books for a list.
-fn walk_ending<P: Policy>(list: &Readings, policy: P) -> Result<Ending, Refusal>
+/// The mark and the length of the walk of a policy with new books for a list. Refused where the
+/// walk refuses.
+pub fn walk_ending<P: Policy>(list: &Readings, policy: P) -> Result<Ending, Refusal>
     ensures { WalkGives P.meaning (P.position policy) (rows_of list.now) result }
 {
     let plan = Accepted::walk(list, policy)?;

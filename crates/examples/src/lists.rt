@@ -1,4 +1,4 @@
-ghost use Rattle.examples.specs.Lists.{readings_u, readings_w, readings_x, readings_y, readings_z};
+ghost use Rattle.examples.specs.Lists.{readings_s, readings_t, readings_u, readings_w, readings_x, readings_y, readings_z};
 ghost use Rattle.readings.specs.Lists.{rows_of};
 ghost use Rattle.std.specs.Prelude.{◌≡◌, IsOkAnd};
 
@@ -55,4 +55,24 @@ pub fn list_u() -> Result<Readings, Refusal>
     ensures { IsOkAnd result (λ l. rows_of l ≡ readings_u) }
 {
     Readings::new(&[Proposal::new(9, 2, 4)])
+}
+
+/// List T: three rows of work 1 and validity 4 slots. Never refused.
+#[tactic(auto, unfolding(readings::specs::Firsts::first_of))]
+pub fn list_t() -> Result<Readings, Refusal>
+    ensures { IsOkAnd result (λ l. rows_of l ≡ readings_t) }
+{
+    Readings::new(&[
+        Proposal::new(7, 1, 4),
+        Proposal::new(8, 1, 4),
+        Proposal::new(9, 1, 4),
+    ])
+}
+
+/// List S: one row of work 1 and validity 2 slots. Never refused.
+#[tactic(auto, unfolding(readings::specs::Firsts::first_of))]
+pub fn list_s() -> Result<Readings, Refusal>
+    ensures { IsOkAnd result (λ l. rows_of l ≡ readings_s) }
+{
+    Readings::new(&[Proposal::new(7, 1, 2)])
 }

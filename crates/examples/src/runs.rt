@@ -1,4 +1,4 @@
-use crate::candidates::{Candidates, Pair};
+use crate::candidates::{Candidates, MoreLessOrStrip, Pair, StripCandidates};
 use crate::exchange::{AskedCall, Exchange};
 use crate::kinds::{Inactive, NeverAlike};
 use periodic::Periodic;
@@ -188,6 +188,63 @@ pub(crate) fn further_days(candidates: &Candidates) -> [Exchange<'_, Periodic>; 
         Exchange::start(w, 31, 30),
         Exchange::refused(AskedCall::Show(8), Refusal::UnknownId),
         Exchange::no_value(9, 0, 9),
+        Exchange::tick(7, 1, 1),
+    ]
+}
+
+// X by a strip waits to cross to X by More-Less, the other policy of a bank. At each instant before
+// the seventh a job is open or a value is too old.
+pub(crate) fn crossing_from_strip<'a, 's>(
+    candidates: &'a StripCandidates<'s>,
+) -> [Exchange<'a, MoreLessOrStrip<'s>>; 47] {
+    let (more_less, deferrable) = (&candidates.more_less, &candidates.deferrable);
+    [
+        Exchange::start(deferrable, 63, 16),
+        Exchange::tick(7, 1, 1),
+        Exchange::tick(0, 2, 0),
+        Exchange::tick(0, 2, 2),
+        Exchange::tick(0, 3, 0),
+        Exchange::tick(1, 1, 1),
+        Exchange::tick(0, 3, 3),
+        Exchange::tick(0, 0, 0),
+        Exchange::tick(2, 2, 0),
+        Exchange::tick(1, 1, 1),
+        Exchange::tick(0, 2, 2),
+        Exchange::tick(0, 0, 0),
+        Exchange::tick(0, 0, 0),
+        Exchange::tick(1, 1, 1),
+        Exchange::tick(0, 0, 0),
+        Exchange::tick(2, 2, 0),
+        Exchange::tick(0, 2, 2),
+        Exchange::tick(1, 1, 1),
+        Exchange::tick(0, 0, 0),
+        Exchange::tick(4, 3, 0),
+        Exchange::tick(0, 3, 3),
+        Exchange::tick(1, 1, 1),
+        Exchange::tick(0, 0, 0),
+        Exchange::tick(2, 2, 0),
+        Exchange::tick(0, 2, 2),
+        Exchange::tick(1, 1, 1),
+        Exchange::tick(0, 0, 0),
+        Exchange::tick(0, 0, 0),
+        Exchange::tick(0, 0, 0),
+        Exchange::tick(1, 1, 1),
+        Exchange::tick(0, 0, 0),
+        Exchange::tick(2, 2, 0),
+        Exchange::tick(0, 2, 2),
+        Exchange::tick(1, 1, 1),
+        Exchange::refused(AskedCall::Switch(more_less, 6), Refusal::NoInstant),
+        Exchange::switch(more_less, 7, 7),
+        Exchange::tick(0, 0, 0),
+        Exchange::tick(0, 0, 0),
+        Exchange::tick(4, 3, 0),
+        Exchange::tick(1, 1, 1),
+        Exchange::tick(0, 3, 3),
+        Exchange::tick(2, 2, 0),
+        Exchange::crossing_tick(0, 2, 2),
+        Exchange::value(7, 4, 5),
+        Exchange::value(8, 2, 10),
+        Exchange::value(9, 5, 20),
         Exchange::tick(7, 1, 1),
     ]
 }

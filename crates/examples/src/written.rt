@@ -4,7 +4,7 @@ use readings::Refusal;
 use std::fmt;
 
 /// A refusal as it is written: its number, for a fault with its slot and row, for a row that has no
-/// response time with the row.
+/// response time, or no room for a job, with the row.
 #[derive(Clone, Copy)]
 pub struct WrittenRefusal(
     /// The refusal.
@@ -20,7 +20,9 @@ impl fmt::Display for WrittenRefusal {
                 f,
                 ", slot {slot}, row {row}"
             ),
-            Refusal::Response { row } => write!(f, ", row {row}"),
+            Refusal::Response { row } | Refusal::FirstJob { row } | Refusal::NextJob { row } => {
+                write!(f, ", row {row}")
+            }
             _ => Ok(()),
         }
     }

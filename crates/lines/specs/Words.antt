@@ -7,7 +7,7 @@ use Rattle.lines.specs.declared.command.CallLine.TheVariants.{Start, Tick, Switc
 use Rattle.lines.specs.declared.command.Command.{Command}
 use Rattle.lines.specs.declared.command.Command.TheVariants.{Plan, Call}
 use Rattle.lines.specs.declared.command.PlanLine.{PlanLine}
-use Rattle.lines.specs.declared.command.PlanLine.TheVariants.{Begin, Reading, HalfHalf, MoreLess}
+use Rattle.lines.specs.declared.command.PlanLine.TheVariants.{Begin, Reading, HalfHalf, MoreLess, Defer}
 use Rattle.lines.specs.Numeral.{numeral}
 use Rattle.lines.specs.Pieces.{pieces}
 
@@ -38,6 +38,7 @@ plan_line word behind =
     else if bytes_eq word (codes "reading") then line_of_three Reading behind
     else if bytes_eq word (codes "half") then line_alone HalfHalf behind
     else if bytes_eq word (codes "more") then line_alone MoreLess behind
+    else if bytes_eq word (codes "defer") then line_of_one Defer behind
     else None
 
 -- the call of the board that a word and the pieces behind it make

@@ -23,6 +23,11 @@ pub enum PlanLine {
     HalfHalf,
     /// The plan ends, and More-Less is to give its policy.
     MoreLess,
+    /// The plan ends, and deferrable scheduling is to give its policy, laid on a strip.
+    Defer {
+        /// The number of slots that the strip is to have.
+        slots: u16,
+    },
 }
 
 /// A call of the board.
@@ -95,6 +100,7 @@ fn plan_line(word: &[u8], pieces: Pieces) -> Option<PlanLine>
         b"reading" => reading_line(pieces),
         b"half" => line_alone(PlanLine::HalfHalf, pieces),
         b"more" => line_alone(PlanLine::MoreLess, pieces),
+        b"defer" => defer_line(pieces),
         _ => None,
     }
 }
@@ -121,6 +127,14 @@ fn reading_line(mut pieces: Pieces) -> Option<PlanLine>
     let work = next_number(&mut pieces)?;
     let validity = next_number(&mut pieces)?;
     line_alone(PlanLine::Reading { id, work, validity }, pieces)
+}
+
+// An end of a plan by a strip: how many slots it has, and nothing behind it.
+fn defer_line(mut pieces: Pieces) -> Option<PlanLine>
+    ensures { result ≡ line_of_one PlanLine.Defer (left pieces.entry) }
+{
+    let slots = next_number(&mut pieces)?;
+    line_alone(PlanLine::Defer { slots }, pieces)
 }
 
 // A start of the board: the number of a plan, and nothing behind it.

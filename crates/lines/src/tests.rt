@@ -39,6 +39,10 @@ fn commands(rt: HostRuntime) {
         (b"half".as_slice(), Command::Plan(PlanLine::HalfHalf)),
         (b"more".as_slice(), Command::Plan(PlanLine::MoreLess)),
         (
+            b"defer 120".as_slice(),
+            Command::Plan(PlanLine::Defer { slots: 120 }),
+        ),
+        (
             b"start 1".as_slice(),
             Command::Call(CallLine::Start { plan: 1 }),
         ),
@@ -65,6 +69,8 @@ fn malformed_lines(rt: HostRuntime) {
         (b"7".as_slice(), "a number for the word"),
         (b"reading 7  1 5".as_slice(), "two spaces"),
         (b"plan ".as_slice(), "a space behind"),
+        (b"defer".as_slice(), "no slots"),
+        (b"defer 4 5".as_slice(), "a number behind the slots"),
         (b"start".as_slice(), "no number"),
         (b"start 1 2".as_slice(), "a number too many"),
         (b"tick x".as_slice(), "no digit"),

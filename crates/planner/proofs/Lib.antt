@@ -1,5 +1,5 @@
 mod Demand
-mod Least
+pub mod Least
 pub mod Planned
 mod Positive
 mod Settling

@@ -2,7 +2,7 @@
 use Rattle.std.proofs.Common.{◌≡◌, ℕ, zero, suc, ◌+◌, ◌-◌, ◌<◌, None, sym, ap, ◌∙◌, subst, inl, inr, add-zero, add-suc, arith}
 use Rattle.std.proofs.lemmas.Bool.{cases_lt}
 use Rattle.repeat.specs.Marks.{after, mark_of}
-use Rattle.repeat.specs.Finds.{RepeatFound, Stepping}
+use Rattle.repeat.specs.Finds.{AlikeLasts, RepeatFound, Stepping}
 
 -- n steps on from where a steps lead
 pub after_plus : {S : Type 0} (next : S → S) (a n : ℕ) (s : S) → after next (a + n) s ≡ after next n (after next a s)
@@ -35,8 +35,8 @@ module _ {S A : Type 0} (shows : S → A) (next : S → S) (s : S) (m t : ℕ) (
   ever_shown below P held = ever (λ n. P (shows (after next n s))) m t below (λ k. subst P (sym (shown_again k))) held
 
 module _ {S F : Type 0} (steps : Stepping S F) (s : S) (limit : ℕ) where
-  -- after a repeat no step, however far ahead, meets a fault
-  pub ever_faultless : (mark instant : ℕ) → RepeatFound steps s limit mark instant → (n : ℕ) → steps.fault (after steps.next n s) ≡ None
-  ever_faultless mark instant f =
+  -- where a yes lasts, no step after a repeat, however far ahead, meets a fault
+  pub ever_faultless : AlikeLasts steps → (mark instant : ℕ) → RepeatFound steps s limit mark instant → (n : ℕ) → steps.fault (after steps.next n s) ≡ None
+  ever_faultless lasts mark instant f =
       let below : mark_of instant < instant = omega arith in
-      ever_shown steps.fault steps.next s (mark_of instant) instant (steps.lasting _ _ f.repeats) below (λ x. x ≡ None) f.faultless
+      ever_shown steps.fault steps.next s (mark_of instant) instant (lasts _ _ f.repeats) below (λ x. x ≡ None) f.faultless

@@ -1,31 +1,15 @@
--- The search as a function that can be computed, and that it finds what a search has to find.
+-- What is computed is what a search has to find.
 use Rattle.std.proofs.Common.{◌≡◌, ℕ, zero, suc, ◌+◌, Bool, true, false, Some, None, Ok, Err, Option, Result, refl, arith}
 use Rattle.repeat.proofs.UnderWay.{UnderWay, begins, fault_found, nowhere, onward, repeat_found}
 use Rattle.repeat.specs.Finds.{Finds, Stepping}
+use Rattle.repeat.specs.Looking.{look, step_end}
 use Rattle.repeat.specs.SearchStep.{StepEnds, after_step, search_from}
 use Rattle.repeat.specs.declared.found.NoRepeat.{NoRepeat}
 use Rattle.repeat.specs.declared.found.NoRepeat.TheVariants.{Fault, Nowhere}
 use Rattle.repeat.specs.declared.found.Repeat.{Repeat}
 use Rattle.repeat.specs.declared.search.Search.{Search}
 
--- how a search step ends, by its fault and its comparison
-abbrev pub step_end : {F : Type 0} → Option F → Bool → (slot mark : ℕ) → Result (Option Repeat) (NoRepeat F)
-step_end (Some met) again slot mark = Err (Fault slot met)
-step_end None true slot mark = Ok (Some (record { mark = mark; instant = slot + 1 }))
-step_end None false slot mark = Ok None
-
 module _ {S F : Type 0} (steps : Stepping S F) where
-  -- the search from a slot on, with so many slots left
-  unfoldable pub look : (left slot : ℕ) → Search S → Result Repeat (NoRepeat F)
-  look zero slot x = Err Nowhere
-  look (suc left) slot x =
-      let to = after_step steps slot x in
-      elim (step_end (steps.fault x.here) (steps.alike to.here x.kept) slot x.mark) [
-        | Ok (Some found) ↦ Ok found
-        | Ok None ↦ look left (slot + 1) to
-        | Err end ↦ Err end
-      ]
-
   -- and so a search step ends
   step_ends : (slot : ℕ) (x : Search S) (met : Option F) (again : Bool) → steps.fault x.here ≡ met → steps.alike (steps.next x.here) x.kept ≡ again
       → StepEnds steps slot x (step_end met again slot x.mark)
@@ -35,14 +19,14 @@ module _ {S F : Type 0} (steps : Stepping S F) where
 
   module _ (s : S) (limit : ℕ) where
     -- from any slot of a search under way
-    look_goes : (left slot : ℕ) (x : Search S) → slot + left ≡ limit → UnderWay steps s slot x → Finds steps s limit (look left slot x)
+    look_goes : (left slot : ℕ) (x : Search S) → slot + left ≡ limit → UnderWay steps s slot x → Finds steps s limit (look steps left slot x)
     unfolding look
     look_goes zero slot x e w = nowhere steps s slot x w limit (omega arith)
     look_goes (suc left) slot x e w =
         let to : Search S = after_step steps slot x in
         (elim (step_end (steps.fault x.here) (steps.alike to.here x.kept) slot x.mark) as (λ (r : Result (Option Repeat) (NoRepeat F)). StepEnds steps slot x r → Finds steps s limit (elim r [
           | Ok (Some found) ↦ Ok found
-          | Ok None ↦ look left (slot + 1) to
+          | Ok None ↦ look steps left (slot + 1) to
           | Err end ↦ Err end
         ])) [
           | Ok (Some found) ↦ λ t. repeat_found steps s slot x w limit found (omega arith) t
@@ -51,5 +35,5 @@ module _ {S F : Type 0} (steps : Stepping S F) where
         ]) (step_ends slot x (steps.fault x.here) (steps.alike to.here x.kept) refl refl)
 
     -- from the start
-    pub look_finds : Finds steps s limit (look limit 0 (search_from s))
+    pub look_finds : Finds steps s limit (look steps limit 0 (search_from s))
     look_finds = look_goes limit 0 (search_from s) (omega arith) (begins steps s)

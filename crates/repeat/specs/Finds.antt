@@ -15,9 +15,12 @@ pub record Stepping (S F : Type 0) : Type 0 where
   pub stopped : S → S
   -- what a comparison of two states says: always the same
   pub alike : S → S → Bool
-  -- a yes means the same faults, or none, ever after
-  pub lasting : (s t : S) → alike s t ≡ true → (n : ℕ)
-      → fault (after next n s) ≡ fault (after next n t)
+
+-- a yes means the same faults, or none, ever after
+abbrev pub AlikeLasts : {S F : Type 0} → Stepping S F → Type 0
+AlikeLasts {S} steps =
+    (s t : S) → steps.alike s t ≡ true → (n : ℕ)
+    → steps.fault (after steps.next n s) ≡ steps.fault (after steps.next n t)
 
 -- steps from state s
 module _ {S F : Type 0} (steps : Stepping S F) (s : S) where

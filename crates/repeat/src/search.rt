@@ -1,5 +1,5 @@
 ghost use Rattle.std.specs.Prelude.{◌≡◌, ℕ, ◌<◌, None, Ok, OnOk};
-ghost use Rattle.repeat.specs.Finds.{Finds};
+ghost use Rattle.repeat.specs.Finds.{Finds, AlikeLasts};
 ghost use Rattle.repeat.specs.Marks.{Largest, after, mark_of};
 ghost use Rattle.repeat.specs.SearchStep.{StepEnds, after_renewal, after_step, search_from, states_of};
 
@@ -64,12 +64,13 @@ impl<S: Stepper> Search<S> {
 /// Steps a copy of `start` from instant 0 on. The search ends at the first instant from 1 on whose
 /// state compares yes with the one at its mark, or fails with the first fault on the way, or with
 /// neither at the limit. The mark of an instant is the largest number below it of the form 2^k - 1.
-/// After a repeat no step, however far ahead, meets a fault.
+/// Where a yes of the comparison means the same faults ever after, no step after a repeat, however
+/// far ahead, meets a fault.
 #[tactic(auto, using(crate::proofs::Marks::largest))]
 pub fn first_repeat<S: Stepper>(start: &S, limit: u16) -> Result<Repeat, NoRepeat<S::Fault>>
     ensures found { Finds S.meaning (S.state start.now) limit result }
     ensures only { (x : _) → Finds S.meaning (S.state start.now) limit x → x ≡ result }
-    ensures faultless { OnOk result
+    ensures faultless { AlikeLasts S.meaning → OnOk result
         ((n : ℕ) → S.meaning.fault (after S.meaning.next n (S.state start.now)) ≡ None) }
     ensures marks { (t : ℕ) → 0 < t → Largest t (mark_of t) }
 {

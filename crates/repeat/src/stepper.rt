@@ -12,7 +12,7 @@ pub trait Stepper: Drop + Sized {
 
     ghost state: { Self → State };
 
-    // the steps, the faults and the comparison of this kind, with their law
+    // the steps, the faults and the comparison of this kind
     ghost meaning: { Stepping State Self.Fault };
 
     /// On to the next state. Fails with the fault that the step meets, if it meets one.
@@ -22,8 +22,7 @@ pub trait Stepper: Drop + Sized {
         ensures met { IfErr result (λ met. meaning.fault (state self.old) ≡ Some met) }
         ensures halted { OnErr result (state self.new ≡ meaning.stopped (state self.old)) };
 
-    /// Whether this state compares with the other: a yes means the same faults, or none, ever
-    /// after, and a no nothing.
+    /// Whether this state compares with the other, as this kind compares states.
     fn same(&self, other: &Self) -> bool
         ensures { result ≡ meaning.alike (state self.now) (state other.now) };
 

@@ -11,3 +11,5 @@ mod scripts;
 mod searches;
 #[cfg(test)]
 mod slots;
+#[cfg(test)]
+mod strips;

@@ -133,6 +133,7 @@ fn lines_out_of_place(rt: HostRuntime) -> Result<(), Fail> {
                 ("reading 1 1 2", "no 24"),
                 ("half", "no 24"),
                 ("more", "no 24"),
+                ("defer 5", "no 24"),
             ],
         )?,
         "before a plan"
@@ -247,6 +248,7 @@ fn calls_that_are_refused(rt: HostRuntime) -> Result<(), Fail> {
                 ("stop", "no 14"),
                 ("plan", "no 24"),
                 ("start 1", "no 25"),
+                ("plans", "no 24"),
             ],
         )?,
         "a board that rests, no ticks, and a plan after a call"
@@ -303,6 +305,125 @@ fn switches(rt: HostRuntime) -> Result<(), Fail> {
                 ("switch 2 5", "no 16"),
                 ("tick 5", "0 2 0 0\n0 2 2 0\n0 3 0 0\n1 1 1 0\n0 3 3 1"),
                 ("show 7", "show 2 8"),
+            ],
+        )?
+    );
+    Ok(())
+}
+
+#[test]
+fn plans_by_strips(rt: HostRuntime) -> Result<(), Fail> {
+    assert!(rt;
+        answers(
+            &rt,
+            &[
+                ("plan", "ok"),
+                ("reading 1 2 6", "ok"),
+                ("reading 2 3 13", "ok"),
+                ("defer 30", "ok"),
+                ("start 1", "start 15 8"),
+                ("tick 5", "3 1 0 0\n0 1 1 0\n0 2 0 0\n0 2 0 0\n1 1 0 0"),
+                ("show 1", "show 5 6"),
+            ],
+        )?,
+        "a list that More-Less refuses"
+    );
+    assert!(rt;
+        answers(
+            &rt,
+            &[
+                ("plan", "ok"),
+                ("reading 1 2 6", "ok"),
+                ("reading 2 3 13", "ok"),
+                ("defer 29", "no 9"),
+                ("start 1", "no 25"),
+            ],
+        )?,
+        "a strip that does not close"
+    );
+    Ok(())
+}
+
+// Whether a plan of list X by this line is refused so at its end, and is then not ready.
+fn refuses_x(rt: &HostRuntime, line: &str, refusal: &str) -> Result<bool, AllocError> {
+    answers(
+        rt,
+        &[
+            ("plan", "ok"),
+            ("reading 7 1 5", "ok"),
+            ("reading 8 2 10", "ok"),
+            ("reading 9 2 20", "ok"),
+            (line, refusal),
+            ("start 1", "no 25"),
+        ],
+    )
+}
+
+#[test]
+fn strips_that_are_refused(rt: HostRuntime) -> Result<(), Fail> {
+    assert!(rt; refuses_x(&rt, "defer 0", "no 6")?);
+    assert!(rt; refuses_x(&rt, "defer 32768", "no 6")?);
+    assert!(rt; refuses_x(&rt, "defer 40000", "no 6")?);
+    assert!(rt; refuses_x(&rt, "defer 4", "no 7")?);
+    assert!(rt; refuses_x(&rt, "defer 88", "no 9")?);
+    assert!(rt;
+        answers(
+            &rt,
+            &[
+                ("plan", "ok"),
+                ("reading 1 1 4", "ok"),
+                ("reading 2 1 4", "ok"),
+                ("reading 3 1 4", "ok"),
+                ("defer 88", "no 8"),
+            ],
+        )?
+    );
+    assert!(rt;
+        answers(
+            &rt,
+            &[("plan", "ok"), ("reading 1 1 1", "ok"), ("defer 0", "no 2")],
+        )?,
+        "the list is judged first"
+    );
+    Ok(())
+}
+
+#[test]
+fn a_switch_from_a_strip_to_periods(rt: HostRuntime) -> Result<(), Fail> {
+    let day = "7 1 1 0\n0 2 0 0\n0 2 2 0\n0 3 0 0\n1 1 1 0\n0 3 3 0\n0 0 0 0\n2 2 0 0\n1 1 1 0\n\
+        0 2 2 0\n0 0 0 0\n0 0 0 0\n1 1 1 0\n0 0 0 0\n2 2 0 0\n0 2 2 0\n1 1 1 0\n0 0 0 0\n\
+        4 3 0 0\n0 3 3 0\n1 1 1 0\n0 0 0 0\n2 2 0 0\n0 2 2 0\n1 1 1 0\n0 0 0 0\n0 0 0 0\n\
+        0 0 0 0\n1 1 1 0\n0 0 0 0\n2 2 0 0\n0 2 2 0\n1 1 1 0";
+    assert!(rt;
+        answers(
+            &rt,
+            &[
+                ("plan", "ok"),
+                ("reading 7 1 5", "ok"),
+                ("reading 8 2 10", "ok"),
+                ("reading 9 2 20", "ok"),
+                ("defer 89", "ok"),
+                ("plan", "ok"),
+                ("reading 7 1 5", "ok"),
+                ("reading 8 2 10", "ok"),
+                ("reading 9 2 20", "ok"),
+                ("more", "ok"),
+                ("start 1", "start 63 16"),
+                ("tick 33", day),
+                ("switch 2 6", "no 18"),
+                ("switch 2 7", "switch 7"),
+                (
+                    "tick 7",
+                    "0 0 0 0\n0 0 0 0\n4 3 0 0\n1 1 1 0\n0 3 3 0\n2 2 0 0\n0 2 2 1",
+                ),
+                ("show 8", "show 2 10"),
+                ("tick 4", "7 1 1 0\n0 2 0 0\n0 2 2 0\n0 3 0 0"),
+                ("stop", "ok"),
+                ("start 2", "start 31 28"),
+                ("tick 1", "7 1 1 0"),
+                ("switch 1 4095", "switch 5"),
+                ("tick 5", "0 2 0 0\n0 2 2 0\n0 3 0 0\n1 1 1 0\n0 3 3 1"),
+                ("tick 3", "7 1 1 0\n0 2 0 0\n0 2 2 0"),
             ],
         )?
     );

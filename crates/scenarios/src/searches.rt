@@ -22,7 +22,6 @@ impl Stepper for Falling {
       next = λ s. (if s.0 == 0 then s.1 else s.0 - 1, s.1);
       stopped = λ s. s;
       alike = λ s t. s.0 == t.0 && s.1 == t.1;
-      lasting = λ _ _ _ _. refl;
     } };
 
     fn step(&mut self) -> Result<(), ()> {

@@ -13,7 +13,7 @@ use Rattle.lines.specs.declared.command.CallLine.TheVariants.{Start, Tick, Switc
 use Rattle.lines.specs.declared.command.Command.{Command}
 use Rattle.lines.specs.declared.command.Command.TheVariants.{Plan, Call}
 use Rattle.lines.specs.declared.command.PlanLine.{PlanLine}
-use Rattle.lines.specs.declared.command.PlanLine.TheVariants.{Begin, Reading, HalfHalf, MoreLess}
+use Rattle.lines.specs.declared.command.PlanLine.TheVariants.{Begin, Reading, HalfHalf, MoreLess, Defer}
 use Rattle.readings.specs.Refusals.{Content}
 use Rattle.board.specs.Requests.{Request}
 use Rattle.script.specs.Boards.{BankPosition}
@@ -146,6 +146,8 @@ plan_counts HalfHalf s rs u x few =
     same_counts _ s u (and_false (is_done rs)) (ap (λ (v : State). v.drafts.begun) x.1 ∙ ended_begun planner.HalfHalf s.drafts) few
 plan_counts MoreLess s rs u x few =
     same_counts _ s u (and_false (is_done rs)) (ap (λ (v : State). v.drafts.begun) x.1 ∙ ended_begun planner.MoreLess s.drafts) few
+plan_counts (Defer slots) s rs u x few =
+    same_counts _ s u (and_false (is_done rs)) (ap (λ (v : State). v.drafts.begun) x.1 ∙ ended_begun (planner.Defer slots) s.drafts) few
 
 chosen : (b : Bool) {A B C : Type 0} → (A → C) → (B → C) → MatchBool b A B → C
 chosen true f g x = f x

@@ -11,7 +11,7 @@ use Rattle.board.specs.Requests.{Request, start, switch, show, stop}
 use Rattle.board.specs.Requests as request
 use Rattle.board.proofs.Only.{answers_one}
 use Rattle.board.specs.declared.call.Grant.{Grant}
-use Rattle.script.specs.Boards.{BankPosition, bank_position, policies}
+use Rattle.script.specs.Boards.{BankPosition, policies}
 use Rattle.script.specs.Calls.{CallAnswered, CallLineAnswered, Met, Replies, TicksAnswered, WithPlan}
 use Rattle.script.specs.Drafting.{plan_at}
 use Rattle.script.specs.Lines.{CommandAnswered, LineAnswered}
@@ -93,10 +93,10 @@ with_plan_one call (Some plan) s rs all u v x y = call_one (call plan) s rs all 
 call_line_one : (line : CallLine) (s : State) (rs all : List Said) (u v : State)
     → CallLineAnswered line s rs u → CallLineAnswered line s all v → Same rs all u v
 call_line_one (Start p) s rs all u v x y =
-    with_plan_one (λ plan. start plan.list (bank_position plan.policy)) (plan_at p s.drafts) s rs all u v x y
+    with_plan_one (λ plan. start plan.list plan.policy) (plan_at p s.drafts) s rs all u v x y
 call_line_one (Tick n) s rs all u v x y = ticks_one n (once_called s) rs all u v x y
 call_line_one (Switch p latency) s rs all u v x y =
-    with_plan_one (λ plan. switch plan.list (bank_position plan.policy) latency) (plan_at p s.drafts) s rs all u v x y
+    with_plan_one (λ plan. switch plan.list plan.policy latency) (plan_at p s.drafts) s rs all u v x y
 call_line_one (Show id) s rs all u v x y = call_one (show id) s rs all u v x y
 call_line_one Stop s rs all u v x y = call_one stop s rs all u v x y
 

@@ -1,110 +1,28 @@
--- Some of the lines of a text.
-use Rattle.std.proofs.Common.{◌≡◌, ℕ, ◌<◌, ◌≤◌, Bool, true, false, List, [], ◌∷◌, ◌++◌, length, map, fold, leb, MatchBool, sym, refl, ap, ◌∙◌, subst, append_assoc, le-leb, arith}
-use Rattle.std.proofs.lemmas.List.{map-append, append-nil}
+-- The lines of a text, one after the other.
+use Rattle.std.proofs.Common.{◌≡◌, ℕ, ◌<◌, Bool, true, false, List, [], ◌∷◌, ◌++◌, length, map, fold, leb, MatchBool, sym, refl, ap, ◌∙◌, subst, append_assoc, arith}
+use Rattle.std.proofs.lemmas.List.{append-nil, map-append}
 use Rattle.std.proofs.lemmas.List.Sums.{fold-append}
-use Rattle.std.proofs.lemmas.Grind.{flat_map-append}
 use Rattle.std.proofs.lemmas.Bool.{both_ways}
 use Rattle.std.proofs.lemmas.Bool.Decides.{nat_tests}
 use Rattle.lines.specs.Left.{none_left}
 use Rattle.lines.specs.Pieces.{pieces}
-use Rattle.board.specs.History.{History, no_history}
-use Rattle.script.specs.Held.{state_of}
-use Rattle.script.specs.Lines.{LineAnswered}
-use Rattle.script.specs.Replies.{Said, refused}
-use Rattle.script.specs.Sinks.{AnswersText, BeginsText, Gets, GivesAll, GivesSome, all_said, concatenation}
-use Rattle.script.specs.States.{State, Tallied, first_state}
+use Rattle.lines.specs.Words.{command_of}
+use Rattle.readings.specs.declared.refusal.Refusal.TheVariants.{BadLine}
+use Rattle.script.specs.Lines.{LineAnswered, ends_plans}
+use Rattle.script.specs.Replies.{Said, refused, said_of}
+use Rattle.script.specs.Sinks.{AnswersLines, AnswersText, BeginsLines, Gets, GivesAll, GivesSome, all_said, concatenation}
+use Rattle.script.specs.States.{State, first_state, once_called}
 use Rattle.script.specs.Stops.{IfMemory, IfSink}
-use Rattle.script.specs.Texts.{LinesAnswered, Rehearses, rest_answer}
+use Rattle.script.specs.Texts.{LinesAnswered}
 use Rattle.script.specs.declared.reply.LineReply.{LineReply}
 use Rattle.script.specs.declared.reply.LineReply.TheVariants.{Refused}
-use Rattle.readings.specs.declared.refusal.Refusal.TheVariants.{BadLine}
-use Rattle.script.specs.declared.script.Script.{Script}
 use Rattle.script.specs.declared.sink.Stopped.{Stopped}
 use Rattle.script.specs.declared.sink.Stopped.TheVariants.{Memory, Sink}
 use Rattle.script.proofs.Only.{line_one}
-
--- some lines of these are answered so, and lead to a state with those left
-pub record LinesPass (s : State) (whole : List (List ℕ)) (answers : List (List Said)) (now : State) (left : List (List ℕ)) : Type 0 where
-  pub onward : (rest : List (List Said)) → LinesAnswered now left rest → LinesAnswered s whole (answers ++ rest)
-  pub back : (all : List (List Said)) → LinesAnswered s whole all
-      → (rest : List (List Said)) × (all ≡ answers ++ rest) × LinesAnswered now left rest
-
-pub no_line_passed : (s : State) (whole : List (List ℕ)) → LinesPass s whole [] s whole
-no_line_passed s whole = record { onward = λ rest t. t; back = λ all t. (all, refl, t) }
-
-module _ (s : State) (whole : List (List ℕ)) (answers : List (List Said)) (now : State) where
-  module _ (line next : List ℕ) (more : List (List ℕ)) (passed : LinesPass s whole answers now (line ∷ next ∷ more)) where
-    -- one line more
-    pub line_more : (rs : List Said) (u : State) → LineAnswered line now rs u → LinesPass s whole (answers ++ rs ∷ []) u (next ∷ more)
-    line_more rs u x =
-        record {
-          onward = λ rest t.
-              subst (LinesAnswered s whole) (sym (append_assoc answers (rs ∷ []) rest)) (passed.onward (rs ∷ rest) (u, x, t));
-          back = λ all t. let near = passed.back all t in go all near.0 near.1 near.2;
-        } where
-          go : (all near : List (List Said)) → all ≡ answers ++ near → LinesAnswered now (line ∷ next ∷ more) near
-              → (rest : List (List Said)) × (all ≡ (answers ++ rs ∷ []) ++ rest) × LinesAnswered u (next ∷ more) rest
-          go all [] e t = absurd t
-          go all (other ∷ rest) e t =
-              let one = line_one line now rs other u t.0 x t.1 in (
-                rest,
-                e ∙ ap (λ (first : List Said). answers ++ first ∷ rest) one.0 ∙ sym (append_assoc answers (rs ∷ []) rest),
-                subst (λ (v : State). LinesAnswered v (next ∷ more) rest) one.1 t.2,
-              )
-
-    -- where the replies to the next line begin so, those to the whole do too
-    pub begins_more : (rs : List Said)
-        → ((all : List Said) (u : State) → LineAnswered line now all u → (rest : List Said) × (all ≡ rs ++ rest))
-        → (all : List (List Said)) → LinesAnswered s whole all → (rest : List Said) × (concatenation all ≡ (concatenation answers ++ rs) ++ rest)
-    begins_more rs begins all t = let near = passed.back all t in go near.0 near.1 near.2 where
-      go : (near : List (List Said)) → all ≡ answers ++ near → LinesAnswered now (line ∷ next ∷ more) near
-          → (rest : List Said) × (concatenation all ≡ (concatenation answers ++ rs) ++ rest)
-      go [] e t = absurd t
-      go (first ∷ others) e t =
-          let b = begins first t.0 t.1 in (
-            b.0 ++ concatenation others,
-            ap concatenation e ∙ flat_map-append (λ xs. xs) answers (first ∷ others)
-                ∙ ap (λ (ys : List Said). concatenation answers ++ (ys ++ concatenation others)) b.1
-                ∙ ap (λ (ys : List Said). concatenation answers ++ ys) (append_assoc rs b.0 (concatenation others))
-                ∙ sym (append_assoc (concatenation answers) rs (b.0 ++ concatenation others)),
-          )
-
-  module _ (last : List ℕ) (passed : LinesPass s whole answers now (last ∷ [])) where
-    -- what stands behind the last line
-    pub rest_more : LinesPass s whole (answers ++ rest_answer last) now []
-    rest_more =
-        record {
-          onward = λ rest t.
-              subst (λ (rest : List (List Said)). LinesAnswered s whole ((answers ++ rest_answer last) ++ rest)) (sym t)
-              (subst (LinesAnswered s whole) (sym (append-nil (answers ++ rest_answer last))) (passed.onward (rest_answer last) refl));
-          back = λ all t.
-              let near = passed.back all t in
-              ([], near.1 ∙ ap (λ (rest : List (List Said)). answers ++ rest) near.2 ∙ sym (append-nil (answers ++ rest_answer last)), refl);
-        }
-
-    -- the replies so far are a beginning
-    pub begins_so_far : (all : List (List Said)) → LinesAnswered s whole all → (rest : List Said) × (concatenation all ≡ concatenation answers ++ rest)
-    begins_so_far all t =
-        let near = passed.back all t in
-        (concatenation near.0, ap concatenation near.1 ∙ flat_map-append (λ xs. xs) answers near.0)
-
-  module _ (passed : LinesPass s whole answers now []) where
-    pub all_lines : LinesAnswered s whole answers
-    all_lines = subst (LinesAnswered s whole) (append-nil answers) (passed.onward [] refl)
-
-    pub all_lines_only : (all : List (List Said)) → LinesAnswered s whole all → all ≡ answers
-    all_lines_only all t =
-        let near = passed.back all t in
-        near.1 ∙ ap (λ (rest : List (List Said)). answers ++ rest) near.2 ∙ append-nil answers
-
--- what the replies to some lines say, one behind the other
-said_joined : (rss : List (List LineReply)) → all_said (concatenation rss) ≡ concatenation (map all_said rss)
-said_joined [] = refl
-said_joined (rs ∷ rss) =
-    map-append _ rs (concatenation rss) ∙ ap (λ (more : List Said). all_said rs ++ more) (said_joined rss)
+use Rattle.script.proofs.Phases.{lines_called}
 
 -- where another piece is left
-pub another_left : (left : List (List ℕ)) → none_left left ≡ false → (next : List ℕ) × (more : List (List ℕ)) × (left ≡ next ∷ more)
+another_left : (left : List (List ℕ)) → none_left left ≡ false → (next : List ℕ) × (more : List (List ℕ)) × (left ≡ next ∷ more)
 another_left [] e = absurd (both_ways true e refl)
 another_left (next ∷ more) e = (next, more, refl)
 
@@ -112,166 +30,219 @@ pub nothing_left : (left : List (List ℕ)) → none_left left ≡ true → left
 nothing_left [] e = refl
 nothing_left (next ∷ more) e = absurd cc
 
-module _ (text : List ℕ) (short : length text ≤ 16384) where
-  short_enough : leb (length text) 16384 ≡ true
-  short_enough = le-leb _ _ short
+-- what the replies to some lines say, one behind the other
+said_joined : (rss : List (List LineReply)) → all_said (concatenation rss) ≡ concatenation (map all_said rss)
+said_joined [] = refl
+said_joined (rs ∷ rss) =
+    map-append _ rs (concatenation rss) ∙ ap (λ (more : List Said). all_said rs ++ more) (said_joined rss)
 
-  pub by_lines : (answers : List (List Said)) → LinesAnswered first_state (pieces 10 text) answers → Rehearses text answers
-  by_lines answers t =
-      subst (λ (b : Bool). MatchBool b (LinesAnswered first_state (pieces 10 text) answers) (answers ≡ (refused (24, []) ∷ []) ∷ [])) (sym short_enough) t
-
-  pub to_lines : (answers : List (List Said)) → Rehearses text answers → LinesAnswered first_state (pieces 10 text) answers
-  to_lines answers t =
-      subst (λ (b : Bool). MatchBool b (LinesAnswered first_state (pieces 10 text) answers) (answers ≡ (refused (24, []) ∷ []) ∷ [])) short_enough t
-
--- some lines of a text are answered, and the sink has got their replies
-module _ {Got : Type 0} (with_one : Got → LineReply → Got) (old new : Got) (text : List ℕ) where
-  pub record LinesGiven (left : List (List ℕ)) (script : Script) : Type 0 where
-    pub replies : List (List LineReply)
-    pub got : Gets with_one old new (concatenation replies)
-    pub history : History
-    pub tallied : Tallied (state_of script history)
-    pub passed : LinesPass first_state (pieces 10 text) (map all_said replies) (state_of script history) left
-
-module _ {Got : Type 0} (with_one : Got → LineReply → Got) (old : Got) (text : List ℕ) (short : length text ≤ 16384) where
+module _ {Got : Type 0} (with_one : Got → LineReply → Got) where
   -- more replies
-  more_got : (now new : Got) (replies more : List LineReply) → Gets with_one old now replies → Gets with_one now new more
+  more_got : (old now new : Got) (replies more : List LineReply) → Gets with_one old now replies → Gets with_one now new more
       → Gets with_one old new (replies ++ more)
-  more_got now new replies more got e =
+  more_got old now new replies more got e =
       e ∙ ap (λ (g : Got). fold with_one g more) got ∙ sym (fold-append with_one old replies more)
 
-  more_joined : (rss : List (List LineReply)) (rs : List LineReply) → concatenation (rss ++ rs ∷ []) ≡ concatenation rss ++ rs
-  more_joined rss rs = flat_map-append (λ xs. xs) rss (rs ∷ []) ∙ ap (λ (ys : List LineReply). concatenation rss ++ ys) (append-nil rs)
-
-  module _ (now : Got) (script : Script) (left : List (List ℕ)) (given : LinesGiven with_one old now text left script) where
-    -- all lines are answered
-    pub text_answered : left ≡ [] → AnswersText with_one old now text
-    text_answered e =
-        let passed : LinesPass first_state (pieces 10 text) (map all_said given.replies) (state_of script given.history) [] =
-        subst (λ (l : List (List ℕ)). LinesPass first_state (pieces 10 text) (map all_said given.replies) (state_of script given.history) l) e given.passed in
+  -- what allows the same answers
+  module _ (old new : Got) (By Like : List (List Said) → Type 0) (back : (answers : List (List Said)) → Like answers → By answers) where
+    pub answers_like : ((answers : List (List Said)) → By answers → Like answers) → AnswersLines with_one old new By → AnswersLines with_one old new Like
+    answers_like onward x =
         record {
-          replies = given.replies;
-          got = given.got;
-          answered = by_lines text short _ (all_lines _ _ _ _ passed);
-          only = λ all t. all_lines_only _ _ _ _ passed all (to_lines text short all t);
+          replies = x.replies;
+          got = x.got;
+          answered = onward _ x.answered;
+          only = λ answers t. x.only answers (back answers t);
         }
 
-    -- the replies so far are a beginning
-    pub text_begun : (new : Got) → new ≡ now → (last : List ℕ) → left ≡ last ∷ [] → BeginsText with_one old new text
-    text_begun new e last is =
-        let passed : LinesPass first_state (pieces 10 text) (map all_said given.replies) (state_of script given.history) (last ∷ []) =
-        subst (λ (l : List (List ℕ)). LinesPass first_state (pieces 10 text) (map all_said given.replies) (state_of script given.history) l) is given.passed in
-        record {
-          replies = concatenation given.replies;
-          got = e ∙ given.got;
-          begins = λ all t. rw (said_joined given.replies) (begins_so_far _ _ _ _ last passed all (to_lines text short all t));
-        }
+    pub begins_like : BeginsLines with_one old new By → BeginsLines with_one old new Like
+    begins_like x = record { replies = x.replies; got = x.got; begins = λ answers t. x.begins answers (back answers t) }
 
-    -- what stands behind the last line is answered
-    pub rest_given : (new : Got) (last : List ℕ) → left ≡ last ∷ [] → (last ≡ [] → new ≡ now)
-        → ((last ≡ [] → ⊥) → new ≡ with_one now (Refused BadLine)) → LinesGiven with_one old new text [] script
-    rest_given new last is nothing cut = go last is nothing cut where
-      onward : (last : List ℕ) → left ≡ last ∷ []
-          → LinesPass first_state (pieces 10 text) (map all_said given.replies ++ rest_answer last) (state_of script given.history) []
-      onward last is =
-          rest_more _ _ _ _ last
-          (subst (λ (l : List (List ℕ)). LinesPass first_state (pieces 10 text) (map all_said given.replies) (state_of script given.history) l) is given.passed)
+  -- no reply is a beginning of any
+  pub nothing_begins : (old new : Got) (By : List (List Said) → Type 0) → new ≡ old → BeginsLines with_one old new By
+  nothing_begins old new By e = record { replies = []; got = e; begins = λ answers t. (concatenation answers, refl) }
 
-      go : (last : List ℕ) → left ≡ last ∷ [] → (last ≡ [] → new ≡ now)
-          → ((last ≡ [] → ⊥) → new ≡ with_one now (Refused BadLine)) → LinesGiven with_one old new text [] script
-      go [] is nothing cut =
-          record {
-            replies = given.replies;
-            got = nothing refl ∙ given.got;
-            history = given.history;
-            tallied = given.tallied;
-            passed = subst (λ (answers : List (List Said)). LinesPass first_state (pieces 10 text) answers (state_of script given.history) [])
-                (append-nil (map all_said given.replies)) (onward [] is);
-          }
-      go (b ∷ bs) is nothing cut =
-          let one : List (List LineReply) = (Refused BadLine ∷ []) ∷ [] in
-          record {
-            replies = given.replies ++ one;
-            got = rw (more_joined given.replies (Refused BadLine ∷ []))
-                (more_got now new (concatenation given.replies) (Refused BadLine ∷ []) given.got (cut (λ e. absurd cc)));
-            history = given.history;
-            tallied = given.tallied;
-            passed = subst (λ (answers : List (List Said)). LinesPass first_state (pieces 10 text) answers (state_of script given.history) [])
-                (sym (map-append all_said given.replies one)) (onward (b ∷ bs) is);
-          }
-
-    module _ (new : Got) (line : List ℕ) (rest : List (List ℕ)) (is : left ≡ line ∷ rest) (another : none_left rest ≡ false) where
-      onward_at : (next : List ℕ) (more : List (List ℕ)) → rest ≡ next ∷ more
-          → LinesPass first_state (pieces 10 text) (map all_said given.replies) (state_of script given.history) (line ∷ next ∷ more)
-      onward_at next more e =
-          subst (λ (l : List (List ℕ)). LinesPass first_state (pieces 10 text) (map all_said given.replies) (state_of script given.history) l)
-          (is ∙ ap (λ (l : List (List ℕ)). line ∷ l) e) given.passed
-
-      -- one line more is answered
-      pub line_given : (after : Script)
-          → ((h : History) → Tallied (state_of script h) → GivesAll with_one now new (LineAnswered line) h script after)
-          → LinesGiven with_one old new text rest after
-      line_given after gives =
-          let x = gives given.history given.tallied in
-          let near = another_left rest another in
-          let passed = line_more _ _ _ _ line near.0 near.1 (onward_at near.0 near.1 near.2) (all_said x.replies) _ x.answered in
-          record {
-            replies = given.replies ++ x.replies ∷ [];
-            got = rw (more_joined given.replies x.replies) (more_got now new (concatenation given.replies) x.replies given.got x.got);
-            history = x.later;
-            tallied = x.tallied;
-            passed = subst (λ (answers : List (List Said)). LinesPass first_state (pieces 10 text) answers (state_of after x.later) rest)
-                (sym (map-append all_said given.replies (x.replies ∷ [])))
-                (subst (λ (l : List (List ℕ)). LinesPass first_state (pieces 10 text) (map all_said given.replies ++ all_said x.replies ∷ []) (state_of after x.later) l)
-                (sym near.2) passed);
-          }
-
-      begins_with : GivesSome with_one now new (LineAnswered line) given.history script → BeginsText with_one old new text
-      begins_with x =
-          let near = another_left rest another in
-          let said : all_said (concatenation given.replies ++ x.replies) ≡ concatenation (map all_said given.replies) ++ all_said x.replies =
-          map-append _ (concatenation given.replies) x.replies ∙ ap (λ (ys : List Said). ys ++ all_said x.replies) (said_joined given.replies) in
-          record {
-            replies = concatenation given.replies ++ x.replies;
-            got = more_got now new (concatenation given.replies) x.replies given.got x.got;
-            begins = λ all t.
-                rw said (begins_more _ _ _ _ line near.0 near.1 (onward_at near.0 near.1 near.2) (all_said x.replies) x.begins all (to_lines text short all t));
-          }
-
-      -- a line is not answered to its end
-      pub line_begun : {E : Type 0} (stopped : Stopped E) → IfMemory stopped (new ≡ now)
-          → IfSink stopped ((h : History) → Tallied (state_of script h) → GivesSome with_one now new (LineAnswered line) h script)
-          → BeginsText with_one old new text
-      line_begun (Memory e) same some =
-          begins_with (record { replies = []; got = same; begins = λ all u t. (all, refl) })
-      line_begun (Sink e) same some = begins_with (some given.history given.tallied)
-
--- before the first line
-pub no_line_given : {Got : Type 0} (with_one : Got → LineReply → Got) (old : Got) (text : List ℕ) (left : List (List ℕ)) (script : Script)
-    → left ≡ pieces 10 text → state_of script no_history ≡ first_state → Tallied (state_of script no_history)
-    → LinesGiven with_one old old text left script
-no_line_given with_one old text left script e first tallied =
-    record {
-      replies = [];
-      got = refl;
-      history = no_history;
-      tallied = tallied;
-      passed = rw (e, first) (no_line_passed first_state (pieces 10 text));
-    }
-
--- a text that is too long
-module _ (text : List ℕ) (long : 16384 < length text) where
-  too_long : leb (length text) 16384 ≡ false
-  too_long = grind (arith, nat_tests)
-
-  pub refused_alone : {Got : Type 0} (with_one : Got → LineReply → Got) (old new : Got) → new ≡ with_one old (Refused BadLine)
-      → AnswersText with_one old new text
-  refused_alone with_one old new takes =
-      let one : (answers : List (List Said)) → Type 0 =
-      λ answers. answers ≡ (refused (24, []) ∷ []) ∷ [] in
+  -- all replies are a beginning
+  begins_all : (old new : Got) (By : List (List Said) → Type 0) → AnswersLines with_one old new By → BeginsLines with_one old new By
+  begins_all old new By x =
       record {
-        replies = (Refused BadLine ∷ []) ∷ [];
-        got = takes;
-        answered = subst (λ (b : Bool). MatchBool b (LinesAnswered first_state (pieces 10 text) ((refused (24, []) ∷ []) ∷ [])) (one ((refused (24, []) ∷ []) ∷ []))) (sym too_long) refl;
-        only = λ all t. subst (λ (b : Bool). MatchBool b (LinesAnswered first_state (pieces 10 text) all) (one all)) too_long t;
+        replies = concatenation x.replies;
+        got = x.got;
+        begins = λ answers t. ([], ap concatenation (x.only answers t) ∙ sym (said_joined x.replies) ∙ sym (append-nil (all_said (concatenation x.replies))));
       }
+
+  -- a line, and those behind it
+  module _ (s : State) (line next : List ℕ) (more : List (List ℕ)) (old now : Got) where
+    module _ (u : State) (x : GivesAll with_one old now (LineAnswered line) s u) (new : Got) where
+      line_first : (rs : List Said) (rest : List (List Said)) → LinesAnswered s (line ∷ next ∷ more) (rs ∷ rest)
+          → (rs ≡ all_said x.replies) × LinesAnswered u (next ∷ more) rest
+      line_first rs rest t =
+          let one = line_one line s (all_said x.replies) rs u t.0 x.answered t.1 in
+          (one.0, subst (λ (v : State). LinesAnswered v (next ∷ more) rest) one.1 t.2)
+
+      all_answered : AnswersLines with_one now new (LinesAnswered u (next ∷ more)) → AnswersLines with_one old new (LinesAnswered s (line ∷ next ∷ more))
+      all_answered y =
+          record {
+            replies = x.replies ∷ y.replies;
+            got = more_got old now new x.replies (concatenation y.replies) x.got y.got;
+            answered = (u, x.answered, y.answered);
+            only = go;
+          } where
+            go : (answers : List (List Said)) → LinesAnswered s (line ∷ next ∷ more) answers → answers ≡ map all_said (x.replies ∷ y.replies)
+            go [] t = absurd t
+            go (rs ∷ rest) t =
+                let first = line_first rs rest t in
+                ap (λ (rs : List Said). rs ∷ rest) first.0 ∙ ap (λ (rest : List (List Said)). all_said x.replies ∷ rest) (y.only rest first.1)
+
+      more_begun : BeginsLines with_one now new (LinesAnswered u (next ∷ more)) → BeginsLines with_one old new (LinesAnswered s (line ∷ next ∷ more))
+      more_begun y =
+          record {
+            replies = x.replies ++ y.replies;
+            got = more_got old now new x.replies y.replies x.got y.got;
+            begins = go;
+          } where
+            go : (answers : List (List Said)) → LinesAnswered s (line ∷ next ∷ more) answers
+                → (rest : List Said) × (concatenation answers ≡ all_said (x.replies ++ y.replies) ++ rest)
+            go [] t = absurd t
+            go (rs ∷ others) t =
+                let first = line_first rs others t in
+                let b = y.begins others first.1 in (
+                  b.0,
+                  ap (λ (rs : List Said). rs ++ concatenation others) first.0 ∙ ap (λ (ys : List Said). all_said x.replies ++ ys) b.1
+                      ∙ sym (append_assoc (all_said x.replies) (all_said y.replies) b.0)
+                      ∙ ap (λ (ys : List Said). ys ++ b.0) (sym (map-append said_of x.replies y.replies)),
+                )
+
+    -- the line is not answered to its end
+    line_begun : GivesSome with_one old now (LineAnswered line) s → BeginsLines with_one old now (LinesAnswered s (line ∷ next ∷ more))
+    line_begun x = record { replies = x.replies; got = x.got; begins = go } where
+      go : (answers : List (List Said)) → LinesAnswered s (line ∷ next ∷ more) answers
+          → (rest : List Said) × (concatenation answers ≡ all_said x.replies ++ rest)
+      go [] t = absurd t
+      go (rs ∷ others) t =
+          let b = x.begins rs t.0 t.1 in
+          (b.0 ++ concatenation others, ap (λ (rs : List Said). rs ++ concatenation others) b.1 ∙ append_assoc (all_said x.replies) b.0 (concatenation others))
+
+  -- what stands behind the last line
+  rest_answered : (old new : Got) (s : State) (rest : List ℕ) → (rest ≡ [] → new ≡ old) → ((rest ≡ [] → ⊥) → new ≡ with_one old (Refused BadLine))
+      → AnswersLines with_one old new (LinesAnswered s (rest ∷ []))
+  rest_answered old new s [] nothing cut = record { replies = []; got = nothing refl; answered = refl; only = λ answers t. t }
+  rest_answered old new s (b ∷ bs) nothing cut =
+      record { replies = (Refused BadLine ∷ []) ∷ []; got = cut (λ e. absurd cc); answered = refl; only = λ answers t. t }
+
+  module _ (old now : Got) (s : State) (rest : List ℕ) (nothing : rest ≡ [] → now ≡ old) (cut : (rest ≡ [] → ⊥) → now ≡ with_one old (Refused BadLine))
+      (new : Got) where
+    -- and nothing is left then
+    all_answered_by_rest : AnswersLines with_one now new (LinesAnswered s []) → AnswersLines with_one old new (LinesAnswered s (rest ∷ []))
+    all_answered_by_rest y = subst (λ (g : Got). AnswersLines with_one old g (LinesAnswered s (rest ∷ []))) (sym (none y.replies y.got y.answered)) (rest_answered old now s rest nothing cut) where
+      none : (replies : List (List LineReply)) → Gets with_one now new (concatenation replies) → map all_said replies ≡ [] → new ≡ now
+      none [] e is = e
+      none (rs ∷ more) e is = absurd cc
+
+    begun_by_rest : BeginsLines with_one now new (LinesAnswered s []) → BeginsLines with_one old new (LinesAnswered s (rest ∷ []))
+    begun_by_rest y =
+        let b = y.begins [] refl in
+        subst (λ (g : Got). BeginsLines with_one old g (LinesAnswered s (rest ∷ []))) (sym (none y.replies b.0 y.got b.1))
+        (begins_all old now _ (rest_answered old now s rest nothing cut)) where
+          none : (replies : List LineReply) (rest : List Said) → Gets with_one now new replies → [] ≡ all_said replies ++ rest → new ≡ now
+          none [] rest e is = e
+          none (reply ∷ more) rest e is = absurd cc
+
+  -- some lines have been answered: what is then answered of those left, or begun, is so of all
+  pub record Reached (old now : Got) (s : State) (lines : List (List ℕ)) (u : State) (left : List (List ℕ)) : Type 0 where
+    pub answered : (new : Got) → AnswersLines with_one now new (LinesAnswered u left) → AnswersLines with_one old new (LinesAnswered s lines)
+    pub begun : (new : Got) → BeginsLines with_one now new (LinesAnswered u left) → BeginsLines with_one old new (LinesAnswered s lines)
+
+  -- before the first line
+  pub none_reached : (old : Got) (s : State) (lines : List (List ℕ)) → Reached old old s lines s lines
+  none_reached old s lines = record { answered = λ new x. x; begun = λ new x. x }
+
+  module _ (old now : Got) (s : State) (lines : List (List ℕ)) (u : State) (left : List (List ℕ)) (reached : Reached old now s lines u left) where
+    -- behind the last line
+    pub all_reached : left ≡ [] → AnswersLines with_one old now (LinesAnswered s lines)
+    all_reached e =
+        reached.answered now
+        (subst (λ (l : List (List ℕ)). AnswersLines with_one now now (LinesAnswered u l)) (sym e) (record { replies = []; got = refl; answered = refl; only = λ answers t. t }))
+
+    -- nothing more is got
+    pub so_far : (new : Got) → new ≡ now → BeginsLines with_one old new (LinesAnswered s lines)
+    so_far new e = reached.begun new (nothing_begins now new (LinesAnswered u left) e)
+
+    module _ (line : List ℕ) (rest : List (List ℕ)) (is : left ≡ line ∷ rest) where
+      -- the line and another one, for which the lines left stand
+      at_line : (another : none_left rest ≡ false) → (next : List ℕ) × (more : List (List ℕ)) × (rest ≡ next ∷ more)
+          × Reached old now s lines u (line ∷ next ∷ more)
+      at_line another =
+          let near = another_left rest another in
+          (near.0, near.1, near.2, subst (λ (l : List (List ℕ)). Reached old now s lines u l) (is ∙ ap (λ (l : List (List ℕ)). line ∷ l) near.2) reached)
+
+      -- a line more is answered
+      pub line_reached : (another : none_left rest ≡ false) (new : Got) (v : State) → GivesAll with_one now new (LineAnswered line) u v
+          → Reached old new s lines v rest
+      line_reached another new v x =
+          let here = at_line another in
+          rw here.2 (record {
+            answered = λ last y. here.3.answered last (all_answered u line here.0 here.1 now new v x last y);
+            begun = λ last y. here.3.begun last (more_begun u line here.0 here.1 now new v x last y);
+          })
+
+      -- a line is begun
+      pub begun_reached : (another : none_left rest ≡ false) (new : Got) → GivesSome with_one now new (LineAnswered line) u
+          → BeginsLines with_one old new (LinesAnswered s lines)
+      begun_reached another new x =
+          let here = at_line another in
+          here.3.begun new (line_begun u line here.0 here.1 now new x)
+
+      -- the line stops in the middle, for want of memory or by the sink
+      pub stopped_begun : {E : Type 0} (another : none_left rest ≡ false) (new : Got) (stopped : Stopped E) → IfMemory stopped (new ≡ now)
+          → IfSink stopped (GivesSome with_one now new (LineAnswered line) u) → BeginsLines with_one old new (LinesAnswered s lines)
+      stopped_begun another new (Memory e) same some = so_far new same
+      stopped_begun another new (Sink e) same some = begun_reached another new some
+
+      -- the line ends the writing of plans
+      module _ (another : none_left rest ≡ false) (ends : ends_plans (command_of line) u.drafts ≡ true) where
+        from_called : (answers : List (List Said)) → LinesAnswered (once_called u) (line ∷ rest) answers → LinesAnswered u left answers
+        from_called answers t =
+            let near = another_left rest another in
+            rw (is, near.2) (lines_called true u.called u line near.0 near.1 ends answers (rw near.2 at t))
+
+        to_called : (answers : List (List Said)) → LinesAnswered u left answers → LinesAnswered (once_called u) (line ∷ rest) answers
+        to_called answers t =
+            let near = another_left rest another in
+            rw near.2 (lines_called u.called true u line near.0 near.1 ends answers (rw (is, near.2) at t))
+
+        module _ (same : Got) (v : State) (got : same ≡ now) (kept : v ≡ u) (new : Got) where
+          -- it and those behind it are answered by calls
+          pub called_answered : AnswersLines with_one same new (LinesAnswered (once_called v) (line ∷ rest))
+              → AnswersLines with_one old new (LinesAnswered s lines)
+          called_answered x = reached.answered new (answers_like now new _ _ to_called from_called (rw (got, kept) at x))
+
+          -- they are begun
+          pub called_begun : BeginsLines with_one same new (LinesAnswered (once_called v) (line ∷ rest))
+              → BeginsLines with_one old new (LinesAnswered s lines)
+          called_begun x = reached.begun new (begins_like now new _ _ to_called (rw (got, kept) at x))
+
+      -- what stands behind the last line is answered
+      pub rest_reached : rest ≡ [] → (new : Got) → (line ≡ [] → new ≡ now) → ((line ≡ [] → ⊥) → new ≡ with_one now (Refused BadLine))
+          → Reached old new s lines u rest
+      rest_reached none new nothing cut =
+          let here : Reached old now s lines u (line ∷ []) =
+          subst (λ (l : List (List ℕ)). Reached old now s lines u l) (is ∙ ap (λ (l : List (List ℕ)). line ∷ l) none) reached in
+          rw none (record {
+            answered = λ last y. here.answered last (all_answered_by_rest now new u line nothing cut last y);
+            begun = λ last y. here.begun last (begun_by_rest now new u line nothing cut last y);
+          })
+
+-- a text of at most so many bytes is answered line by line
+module _ {Got : Type 0} (with_one : Got → LineReply → Got) (old new : Got) (text : List ℕ) where
+  abbrev ByLength : Bool → List (List Said) → Type 0
+  ByLength short answers = MatchBool short (LinesAnswered first_state (pieces 10 text) answers) (answers ≡ (refused (24, []) ∷ []) ∷ [])
+
+  -- a text that is too long
+  module _ (long : 16384 < length text) where
+    too_long : leb (length text) 16384 ≡ false
+    too_long = grind (arith, nat_tests)
+
+    pub refused_alone : new ≡ with_one old (Refused BadLine) → AnswersText with_one old new text
+    refused_alone takes =
+        subst (λ (b : Bool). AnswersLines with_one old new (ByLength b)) (sym too_long)
+        (record { replies = (Refused BadLine ∷ []) ∷ []; got = takes; answered = refl; only = λ answers t. t })

@@ -1,173 +1,152 @@
 -- Some of the ticks of a line.
-use Rattle.std.proofs.Common.{◌≡◌, ℕ, suc, ◌+◌, ◌-◌, ◌<◌, ◌≤◌, true, false, List, [], ◌∷◌, ◌++◌, Ok, Err, sym, refl, ap, ◌∙◌, subst, arith, add-zero}
-use Rattle.std.proofs.lemmas.List.{map-append, append-nil}
-use Rattle.std.proofs.lemmas.List.Sums.{fold-append}
-use Rattle.std.proofs.Common.{append_assoc}
-use Rattle.board.specs.History.{History}
+use Rattle.std.proofs.Common.{◌≡◌, ℕ, suc, ◌+◌, ◌-◌, ◌<◌, ◌≤◌, true, false, List, [], ◌∷◌, fold, Ok, Err, sym, refl, ap, ◌∙◌, subst, arith, add-zero}
 use Rattle.board.specs.Log.{Reply}
 use Rattle.board.specs.Requests as request
 use Rattle.board.specs.declared.call.Grant.{Grant}
 use Rattle.lines.specs.declared.command.CallLine.TheVariants.{Tick}
 use Rattle.script.specs.Calls.{CallAnswered, CallLineAnswered, Replies, TicksAnswered}
-use Rattle.script.specs.Held.{state_of}
 use Rattle.script.specs.Replies.{Said, granted, refused, board_said, is_refused, said_of}
 use Rattle.script.specs.Sinks.{Gets, GivesAll, GivesOne, GivesSome, all_said}
 use Rattle.script.specs.States.{State, Tallied, once_called, state_after}
 use Rattle.script.specs.declared.reply.LineReply.{LineReply}
-use Rattle.script.specs.declared.script.Script.{Script}
 use Rattle.script.proofs.Only.{granted_one, ticks_one}
 
--- k ticks are answered by these replies and lead from a state to a state, and none of them is refused
-pub record TicksPass (k : ℕ) (s : State) (rs : List Said) (now : State) : Type 0 where
-  pub onward : (n : ℕ) (rest : List Said) (u : State) → TicksAnswered n now rest u → TicksAnswered (n + k) s (rs ++ rest) u
-  pub back : (n : ℕ) (all : List Said) (u : State) → TicksAnswered (n + k) s all u
-      → (rest : List Said) × (all ≡ rs ++ rest) × TicksAnswered n now rest u
+-- a board replies the same, whether or not it has been called
+called_replies : (s : State) (a : Reply) → Replies request.tick s a → Replies request.tick (once_called s) a
+called_replies s a x = record { answers = x.answers; ages = x.ages }
 
-pub none_passed : (s : State) → TicksPass 0 s [] s
-none_passed s =
-    record {
-      onward = λ n rest u t. rw add-zero t;
-      back = λ n all u t. (all, refl, rw add-zero at t);
-    }
+-- no tick
+none_answered : (s : State) (rs : List Said) (u : State) → TicksAnswered 0 s rs u → rs ≡ []
+none_answered s [] u x = refl
+none_answered s (said ∷ rs) u x = absurd x
 
-module _ (k : ℕ) (s : State) (rs : List Said) (now : State) (passed : TicksPass k s rs now) where
-  -- one more that is granted
-  granted_more : (grant : Grant) → Replies request.tick now (Ok grant)
-      → TicksPass (k + 1) s (rs ++ granted grant ∷ []) (state_after request.tick (Ok grant) now)
-  granted_more grant x =
-      record {
-        onward = λ n rest u t.
-            let longer : TicksAnswered (suc n) now (granted grant ∷ rest) u = (x, t) in
-            let far = passed.onward (suc n) (granted grant ∷ rest) u longer in
-            let count : suc n + k ≡ n + (k + 1) = omega arith in
-            subst (λ (m : ℕ). TicksAnswered m s ((rs ++ granted grant ∷ []) ++ rest) u) count
-            (subst (λ (all : List Said). TicksAnswered (suc n + k) s all u) (sym (append_assoc rs (granted grant ∷ []) rest)) far);
-        back = λ n all u t.
-            let count : n + (k + 1) ≡ suc n + k = omega arith in
-            let near = passed.back (suc n) all u (subst (λ (m : ℕ). TicksAnswered m s all u) count t) in
-            let one = granted_one n now grant x near.0 u near.2 in
-            (one.0, near.1 ∙ ap (λ (more : List Said). rs ++ more) one.1 ∙ sym (append_assoc rs (granted grant ∷ []) one.0), one.2);
-      }
+-- a tick that is granted
+record GrantedTick (s : State) (said : Said) (u : State) : Type 0 where
+  grant : Grant
+  says : said ≡ granted grant
+  replies : Replies request.tick (once_called s) (Ok grant)
+  state : u ≡ state_after request.tick (Ok grant) s
 
-  -- one more, as a call of the board
-  pub one_more : (said : Said) (u : State) → CallAnswered request.tick now (said ∷ []) u → is_refused said ≡ false
-      → TicksPass (k + 1) s (rs ++ said ∷ []) u
-  one_more said u x kept = go x.reply x.replies x.says x.state where
-    go : (a : Reply) → Replies request.tick now a → said ∷ [] ≡ board_said a ∷ [] → u ≡ state_after request.tick a now
-        → TicksPass (k + 1) s (rs ++ said ∷ []) u
-    go (Ok grant) y says e =
-        let is : said ≡ granted grant = cc in
-        subst (λ (r : Said). TicksPass (k + 1) s (rs ++ r ∷ []) u) (sym is)
-        (subst (λ (v : State). TicksPass (k + 1) s (rs ++ granted grant ∷ []) v) (sym e) (granted_more grant y))
-    go (Err refusal) y says e =
-        let is : said ≡ refused refusal = cc in
-        let yes : is_refused said ≡ true = ap is_refused is in
-        absurd cc
+granted_tick : (s : State) (said : Said) (u : State) → CallAnswered request.tick s (said ∷ []) u → is_refused said ≡ false → GrantedTick s said u
+granted_tick s said u x kept = go x.reply x.replies x.says x.state where
+  go : (a : Reply) → Replies request.tick s a → said ∷ [] ≡ board_said a ∷ [] → u ≡ state_after request.tick a s → GrantedTick s said u
+  go (Ok grant) y says e = record { grant = grant; says = cc; replies = called_replies s (Ok grant) y; state = e }
+  go (Err refusal) y says e =
+      let is : said ≡ refused refusal = cc in
+      let yes : is_refused said ≡ true = ap is_refused is in
+      absurd cc
 
-  -- all of them
-  pub all_passed : TicksAnswered k s rs now
-  all_passed = subst (λ (all : List Said). TicksAnswered k s all now) (append-nil rs) (subst (λ (m : ℕ). TicksAnswered m s (rs ++ []) now) (omega arith) (passed.onward 0 [] now refl))
+-- a tick that is refused is the last
+refused_tick : (n : ℕ) (s : State) (said : Said) (u : State) → CallAnswered request.tick s (said ∷ []) u → is_refused said ≡ true
+    → TicksAnswered (suc n) (once_called s) (said ∷ []) u
+refused_tick n s said u x last = go x.reply x.replies x.says x.state where
+  go : (a : Reply) → Replies request.tick s a → said ∷ [] ≡ board_said a ∷ [] → u ≡ state_after request.tick a s
+      → TicksAnswered (suc n) (once_called s) (said ∷ []) u
+  go (Ok grant) y says e =
+      let is : said ≡ granted grant = cc in
+      let no : is_refused said ≡ false = ap is_refused is in
+      absurd cc
+  go (Err refusal) y says e =
+      let is : said ≡ refused refusal = cc in
+      subst (λ (r : Said). TicksAnswered (suc n) (once_called s) (r ∷ []) u) (sym is) (called_replies s (Err refusal) y, e)
 
-  -- a beginning of them
-  pub some_passed : (n : ℕ) → k ≤ n → (all : List Said) (u : State) → TicksAnswered n s all u → (rest : List Said) × (all ≡ rs ++ rest)
-  some_passed n le all u t =
-      let count : n ≡ (n - k) + k = omega arith in
-      let near = passed.back (n - k) all u (subst (λ (m : ℕ). TicksAnswered m s all u) count t) in
-      (near.0, near.1)
+module _ {Got : Type 0} (with_one : Got → LineReply → Got) where
+  -- a granted tick, and so many behind it
+  module _ (s u : State) (old now : Got) (reply : LineReply) (takes : now ≡ with_one old reply) (first : GrantedTick s (said_of reply) u) (n : ℕ) where
+    more_got : (new : Got) (more : List LineReply) → Gets with_one now new more → Gets with_one old new (reply ∷ more)
+    more_got new more e = e ∙ ap (λ (g : Got). fold with_one g more) takes
 
-  -- the last one, refused
-  module _ (n : ℕ) (less : k < n) (said : Said) (u : State) (x : CallAnswered request.tick now (said ∷ []) u) (yes : is_refused said ≡ true) where
-    pub ends_refused : TicksAnswered n s (rs ++ said ∷ []) u
-    ends_refused = go x.reply x.replies x.says x.state where
-      go : (a : Reply) → Replies request.tick now a → said ∷ [] ≡ board_said a ∷ [] → u ≡ state_after request.tick a now
-          → TicksAnswered n s (rs ++ said ∷ []) u
-      go (Ok grant) y says e =
-          let is : said ≡ granted grant = cc in
-          let no : is_refused said ≡ false = ap is_refused is in
-          absurd cc
-      go (Err refusal) y says e =
-          let is : said ≡ refused refusal = cc in
-          let m = n - k - 1 in
-          let count : suc m + k ≡ n = omega arith in
-          let last : TicksAnswered (suc m) now (refused refusal ∷ []) u = (y, e) in
-          subst (λ (r : Said). TicksAnswered n s (rs ++ r ∷ []) u) (sym is)
-          (subst (λ (m : ℕ). TicksAnswered m s (rs ++ refused refusal ∷ []) u) count (passed.onward (suc m) (refused refusal ∷ []) u last))
+    answered_more : (rs : List Said) (v : State) → CallLineAnswered (Tick n) u rs v → CallLineAnswered (Tick (suc n)) s (said_of reply ∷ rs) v
+    answered_more rs v t =
+        subst (λ (r : Said). TicksAnswered (suc n) (once_called s) (r ∷ rs) v) (sym first.says)
+        (first.replies, subst (λ (w : State). TicksAnswered n (once_called w) rs v) first.state t)
 
--- so many ticks of a line have passed, and the sink has got their replies
-module _ {Got : Type 0} (with_one : Got → LineReply → Got) (old new : Got) (h : History) (before : Script) where
-  pub record TicksGiven (k : ℕ) (after : Script) : Type 0 where
-    pub replies : List LineReply
-    pub got : Gets with_one old new replies
-    pub later : History
-    pub tallied : Tallied (state_of after later)
-    pub passed : TicksPass k (once_called (state_of before h)) (all_said replies) (state_of after later)
+    answered_first : (all : List Said) (v : State) → CallLineAnswered (Tick (suc n)) s all v
+        → (rest : List Said) × (all ≡ said_of reply ∷ rest) × CallLineAnswered (Tick n) u rest v
+    answered_first all v t =
+        let one = granted_one n (once_called s) first.grant first.replies all v t in (
+          one.0,
+          one.1 ∙ ap (λ (r : Said). r ∷ one.0) (sym first.says),
+          subst (λ (w : State). TicksAnswered n (once_called w) one.0 v) (sym first.state) one.2,
+        )
 
-module _ {Got : Type 0} (with_one : Got → LineReply → Got) (old : Got) (h : History) (before : Script) where
-  -- one reply more
-  one_got : (now new : Got) (replies : List LineReply) (reply : LineReply) → Gets with_one old now replies → new ≡ with_one now reply
-      → Gets with_one old new (replies ++ reply ∷ [])
-  one_got now new replies reply got e =
-      e ∙ ap (λ (g : Got). with_one g reply) got ∙ sym (fold-append with_one old replies (reply ∷ []))
+    all_more : (new : Got) (v : State) → GivesAll with_one now new (CallLineAnswered (Tick n)) u v → GivesAll with_one old new (CallLineAnswered (Tick (suc n))) s v
+    all_more new v x =
+        record {
+          replies = reply ∷ x.replies;
+          got = more_got new x.replies x.got;
+          tallied = x.tallied;
+          answered = answered_more (all_said x.replies) v x.answered;
+          only = λ all w t.
+              let f = answered_first all w t in
+              f.1 ∙ ap (λ (rest : List Said). said_of reply ∷ rest) (x.only f.0 w f.2);
+        }
 
-  one_said : (replies : List LineReply) (reply : LineReply) → all_said (replies ++ reply ∷ []) ≡ all_said replies ++ said_of reply ∷ []
-  one_said replies reply = map-append said_of replies (reply ∷ [])
+    some_more : (new : Got) → GivesSome with_one now new (CallLineAnswered (Tick n)) u → GivesSome with_one old new (CallLineAnswered (Tick (suc n))) s
+    some_more new x =
+        record {
+          replies = reply ∷ x.replies;
+          got = more_got new x.replies x.got;
+          begins = λ all w t.
+              let f = answered_first all w t in
+              let b = x.begins f.0 w f.2 in
+              (b.0, f.1 ∙ ap (λ (rest : List Said). said_of reply ∷ rest) b.1);
+        }
 
-  module _ (k : ℕ) (now : Got) (mid : Script) (given : TicksGiven with_one old now h before k mid) where
+  -- k ticks are granted: what is then given to some more, all of it or a beginning, is so to all
+  pub record TicksPassed (old now : Got) (s : State) (k : ℕ) (u : State) : Type 0 where
+    pub tallied : Tallied u
+    pub all : (n : ℕ) (new : Got) (v : State) → GivesAll with_one now new (CallLineAnswered (Tick n)) u v
+        → GivesAll with_one old new (CallLineAnswered (Tick (n + k))) s v
+    pub some : (n : ℕ) (new : Got) → GivesSome with_one now new (CallLineAnswered (Tick n)) u
+        → GivesSome with_one old new (CallLineAnswered (Tick (n + k))) s
+
+  -- before the first tick
+  pub none_passed : (old : Got) (s : State) → Tallied s → TicksPassed old old s 0 s
+  none_passed old s t = record { tallied = t; all = λ n new v x. rw add-zero x; some = λ n new x. rw add-zero x }
+
+  module _ (old now : Got) (s : State) (k : ℕ) (u : State) (passed : TicksPassed old now s k u) where
     -- all are granted
-    pub gives_all : (n : ℕ) → k ≡ n → GivesAll with_one old now (CallLineAnswered (Tick n)) h before mid
-    gives_all n e =
-        rw (← e) (record {
-          replies = given.replies;
-          got = given.got;
-          later = given.later;
-          tallied = given.tallied;
-          answered = all_passed k _ _ _ given.passed;
-          only = λ rs u t. (ticks_one k (once_called (state_of before h)) (all_said given.replies) rs _ u (all_passed k _ _ _ given.passed) t).0;
-        })
+    pub all_passed : (n : ℕ) → k ≡ n → u ≡ once_called u → GivesAll with_one old now (CallLineAnswered (Tick n)) s u
+    all_passed n e called =
+        subst (λ (m : ℕ). GivesAll with_one old now (CallLineAnswered (Tick m)) s u) (omega arith)
+        (passed.all 0 now u
+        (record { replies = []; got = refl; tallied = passed.tallied; answered = called; only = λ rs v t. none_answered (once_called u) rs v t }))
 
     -- the sink fails behind these
-    pub gives_some : (n : ℕ) (new : Got) → k ≤ n → new ≡ now → GivesSome with_one old new (CallLineAnswered (Tick n)) h before
-    gives_some n new le e =
-        record { replies = given.replies; got = e ∙ given.got; begins = some_passed k _ _ _ given.passed n le }
+    pub some_passed : (n : ℕ) (new : Got) → k ≤ n → new ≡ now → GivesSome with_one old new (CallLineAnswered (Tick n)) s
+    some_passed n new le e =
+        subst (λ (m : ℕ). GivesSome with_one old new (CallLineAnswered (Tick m)) s) (omega arith)
+        (passed.some (n - k) new (record { replies = []; got = e; begins = λ rs v t. (rs, refl) }))
 
-    module _ (new : Got) (reply : LineReply) (after : Script) (takes : new ≡ with_one now reply)
-        (one : (h' : History) → Tallied (state_of mid h') → GivesOne (CallAnswered request.tick) h' mid reply after) where
+    module _ (new : Got) (reply : LineReply) (v : State) (takes : new ≡ with_one now reply) (x : GivesOne (CallAnswered request.tick) u reply v) where
       -- one more is granted
-      pub given_more : is_refused (said_of reply) ≡ false → TicksGiven with_one old new h before (k + 1) after
-      given_more kept =
-          let x = one given.later given.tallied in
+      pub more_passed : is_refused (said_of reply) ≡ false → TicksPassed old new s (k + 1) v
+      more_passed kept =
+          let first = granted_tick u (said_of reply) v x.answered kept in
           record {
-            replies = given.replies ++ reply ∷ [];
-            got = one_got now new given.replies reply given.got takes;
-            later = x.later;
             tallied = x.tallied;
-            passed = rw (one_said given.replies reply) (one_more k _ _ _ given.passed (said_of reply) _ x.answered kept);
+            all = λ n last w y.
+                let count : suc n + k ≡ n + (k + 1) = omega arith in
+                subst (λ (m : ℕ). GivesAll with_one old last (CallLineAnswered (Tick m)) s w) count
+                (passed.all (suc n) last w (all_more u v now new reply takes first n last w y));
+            some = λ n last y.
+                let count : suc n + k ≡ n + (k + 1) = omega arith in
+                subst (λ (m : ℕ). GivesSome with_one old last (CallLineAnswered (Tick m)) s) count
+                (passed.some (suc n) last (some_more u v now new reply takes first n last y));
           }
 
       -- one more is refused, and is the last
-      pub gives_refused : (n : ℕ) → k < n → is_refused (said_of reply) ≡ true
-          → GivesAll with_one old new (CallLineAnswered (Tick n)) h before after
-      gives_refused n less last =
-          let x = one given.later given.tallied in
-          let answered : TicksAnswered n (once_called (state_of before h)) (all_said (given.replies ++ reply ∷ [])) (state_of after x.later) =
-          rw (one_said given.replies reply) (ends_refused k _ _ _ given.passed n less (said_of reply) _ x.answered last) in
-          record {
-            replies = given.replies ++ reply ∷ [];
-            got = one_got now new given.replies reply given.got takes;
-            later = x.later;
+      pub refused_passed : (n : ℕ) → k < n → is_refused (said_of reply) ≡ true → GivesAll with_one old new (CallLineAnswered (Tick n)) s v
+      refused_passed n less last =
+          let m = n - k - 1 in
+          let answered = refused_tick m u (said_of reply) v x.answered last in
+          subst (λ (m : ℕ). GivesAll with_one old new (CallLineAnswered (Tick m)) s v) (omega arith)
+          (passed.all (suc m) new v
+          (record {
+            replies = reply ∷ [];
+            got = takes;
             tallied = x.tallied;
             answered = answered;
-            only = λ rs u t. (ticks_one n (once_called (state_of before h)) _ rs _ u answered t).0;
-          }
-
-  -- before the first tick
-  pub given_none : (now : Script) → Tallied (state_of before h) → state_of now h ≡ once_called (state_of before h)
-      → TicksGiven with_one old old h before 0 now
-  given_none now t e =
-      record {
-        replies = [];
-        got = refl;
-        later = h;
-        tallied = subst Tallied (sym e) t;
-        passed = rw e (none_passed (once_called (state_of before h)));
-      }
+            only = λ rs w t. (ticks_one (suc m) (once_called u) (said_of reply ∷ []) rs v w answered t).0;
+          }))

@@ -8,7 +8,7 @@ use Rattle.board.specs.Answers.{Answers}
 use Rattle.board.specs.Log.{Reply}
 use Rattle.board.specs.Requests.{Request, start, switch, show, stop}
 use Rattle.board.specs.Requests as request
-use Rattle.script.specs.Boards.{BankPosition, bank_position, policies}
+use Rattle.script.specs.Boards.{BankPosition, policies}
 use Rattle.script.specs.Drafting.{plan_at}
 use Rattle.script.specs.Plans.{Ready}
 use Rattle.script.specs.Replies.{Said, granted, refused, board_said}
@@ -49,10 +49,10 @@ WithPlan call (Some plan) s rs u = CallAnswered (call plan) s rs u
 -- a line that calls the board, where no plan is being written
 abbrev pub CallLineAnswered : CallLine → State → List Said → State → Type 0
 CallLineAnswered (Start p) s rs u =
-    WithPlan (λ plan. start plan.list (bank_position plan.policy)) (plan_at p s.drafts) s rs u
+    WithPlan (λ plan. start plan.list plan.policy) (plan_at p s.drafts) s rs u
 CallLineAnswered (Tick n) s rs u = TicksAnswered n (once_called s) rs u
 CallLineAnswered (Switch p latency) s rs u =
-    WithPlan (λ plan. switch plan.list (bank_position plan.policy) latency)
+    WithPlan (λ plan. switch plan.list plan.policy latency)
     (plan_at p s.drafts) s rs u
 CallLineAnswered (Show id) s rs u = CallAnswered (show id) s rs u
 CallLineAnswered Stop s rs u = CallAnswered stop s rs u

@@ -6,7 +6,7 @@ use Rattle.lines.specs.declared.command.PlanLine.{PlanLine}
 use Rattle.lines.specs.declared.command.PlanLine.TheVariants as line
 use Rattle.script.specs.Plans.{Ready, plan_from}
 use Rattle.script.specs.declared.plan.Planner.{Planner}
-use Rattle.script.specs.declared.plan.Planner.TheVariants.{HalfHalf, MoreLess}
+use Rattle.script.specs.declared.plan.Planner.TheVariants.{HalfHalf, MoreLess, Defer}
 
 -- what has been written of the plans between two lines
 pub record Drafting : Type 0 where
@@ -70,6 +70,7 @@ line_drafted (line.Reading id work validity) d =
     reading_added (record { id = id; work = work; validity = validity }) d
 line_drafted line.HalfHalf d = plan_ended HalfHalf d
 line_drafted line.MoreLess d = plan_ended MoreLess d
+line_drafted (line.Defer slots) d = plan_ended (Defer slots) d
 
 -- the plan of a number, if it is there and ready
 abbrev pub plan_at : ℕ → Drafting → Option Ready

@@ -1,6 +1,6 @@
--- What a value of `Script` holds, and when its memory runs out.
-use Rattle.std.specs.Prelude.{◌≡◌, ℕ, ◌<◌, ◌≤◌, false, List, [], length, is_some, Some, vec_items, vec_len, vec_capacity}
-use Rattle.std.specs.Option.{option_map, option_map_or}
+-- What values of `Drafts` and `Calls` hold, and when memory runs out.
+use Rattle.std.specs.Prelude.{◌≡◌, ℕ, ◌<◌, ◌≤◌, true, if◌then◌else◌, List, [], length, is_some, Some, vec_items, vec_len, vec_capacity}
+use Rattle.std.specs.Option.{option_map}
 use Rattle.lines.specs.Words.{command_of}
 use Rattle.lines.specs.declared.command.Command.TheVariants.{Plan}
 use Rattle.lines.specs.declared.command.PlanLine.{PlanLine}
@@ -9,19 +9,27 @@ use Rattle.board.specs.Held.{log_of}
 use Rattle.board.specs.History.{History}
 use Rattle.script.specs.Drafting.{Drafted, Drafting, line_drafted}
 use Rattle.script.specs.Plans.{plan_of}
-use Rattle.script.specs.States.{State}
+use Rattle.script.specs.States.{State, first_state}
+use Rattle.script.specs.declared.calls.Calls.{Calls}
 use Rattle.script.specs.declared.drafts.Drafts.{Drafts}
-use Rattle.script.specs.declared.script.Script.{Script}
+use Rattle.script.specs.declared.drafts.Unbegun.{Unbegun}
+use Rattle.script.specs.declared.drafts.Unbegun.TheVariants.{Both, Second, Neither}
+
+-- how many plans have begun
+abbrev pub begun_of : Unbegun → ℕ
+begun_of (Both first second) = 0
+begun_of (Second second) = 1
+begun_of Neither = 2
 
 -- the readings so far of the plan that is being written, and none where no plan is
 abbrev pub proposed_of : Drafts → List Proposal
-proposed_of d = option_map_or vec_items d.proposed []
+proposed_of d = if is_some d.memory then vec_items d.proposed else []
 
 abbrev pub drafting_of : Drafts → Drafting
 drafting_of d =
     record {
-      begun = d.begun;
-      writing = is_some d.proposed;
+      begun = begun_of d.unbegun;
+      writing = is_some d.memory;
       proposed = proposed_of d;
       first = option_map plan_of d.first;
       second = option_map plan_of d.second;
@@ -30,21 +38,24 @@ drafting_of d =
 -- a line of a plan would add a reading, and the readings so far fill the memory that they have
 pub record NoRoom (drafted : Drafted) (d : Drafts) : Type 0 where
   pub adds : length (proposed_of d) < length drafted.1.proposed
-  pub full : option_map_or vec_capacity d.proposed 0 ≤ option_map_or vec_len d.proposed 0
+  pub full : vec_capacity d.proposed ≤ vec_len d.proposed
 
--- the state of a script, after calls and replies that this history is of
-abbrev pub state_of : Script → History → State
-state_of script h =
+-- the state while plans are written: the board has not been called
+abbrev pub drafts_state : Drafts → State
+drafts_state d = record first_state { drafts = drafting_of d }
+
+-- the state while a board is called, after calls and replies that this history is of
+abbrev pub state_of : Calls → History → State
+state_of calls h =
     record {
-      drafts = drafting_of script.drafts;
-      called = script.called;
-      log = log_of script.board;
+      drafts = drafting_of calls.drafts.now;
+      called = true;
+      log = log_of calls.board;
       history = h;
     }
 
 -- a line finds no room for the reading that it adds
-pub record LineFindsNoRoom (text : List ℕ) (script : Script) : Type 0 where
+pub record LineFindsNoRoom (text : List ℕ) (d : Drafts) : Type 0 where
   pub line : PlanLine
   pub says : command_of text ≡ Some (Plan line)
-  pub in_place : script.called ≡ false
-  pub no_room : NoRoom (line_drafted line (drafting_of script.drafts)) script.drafts
+  pub no_room : NoRoom (line_drafted line (drafting_of d)) d

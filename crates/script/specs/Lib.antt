@@ -1,6 +1,7 @@
+pub mod Boards
+pub mod Strips
 pub mod Plans
 pub mod Drafting
-pub mod Boards
 pub mod Replies
 pub mod Written
 pub mod States

@@ -1,15 +1,21 @@
 ghost use Rattle.script.specs.Laws.{AtMostTwoPlans, NoPlansAfterCalls, TickReplies, answered_lines};
-ghost use Rattle.script.specs.Replies.{Said, refused};
-ghost use Rattle.script.specs.Sinks.{AnswersText, BeginsText};
-ghost use Rattle.script.specs.Texts.{Rehearses};
-ghost use Rattle.std.specs.Prelude.{◌≡◌, ◌≢◌, ◌≤◌, List, [], length, OnErr, OnOk};
+ghost use Rattle.lines.specs.Left.{left, none_left};
+ghost use Rattle.lines.specs.Pieces.{pieces};
+ghost use Rattle.script.specs.Held.{drafts_state};
+ghost use Rattle.script.specs.Replies.{Said};
+ghost use Rattle.script.specs.Sinks.{AnswersLines, AnswersText, BeginsLines, BeginsText};
+ghost use Rattle.script.specs.States.{first_state, once_called};
+ghost use Rattle.script.specs.Texts.{LinesAnswered, Rehearses};
+ghost use Rattle.std.specs.Prelude.{◌≡◌, ◌≢◌, false, List, [], ◌∷◌, OnErr, OnOk};
 
+use crate::calls::Calls;
+use crate::drafts::Drafts;
 use crate::reply::LineReply;
-use crate::script::Script;
 use crate::sink::{Sink, Stopped, give};
+use crate::strips::{LONGEST_STRIP, StripMemory};
 use lines::Pieces;
 use readings::Refusal;
-use std::alloc::Global;
+use std::alloc::{AllocError, Global};
 
 /// The most bytes that a script may have.
 pub const LONGEST_SCRIPT: usize = 16_384;
@@ -38,28 +44,74 @@ pub fn rehearse<S: Sink>(heap: Global, text: &[u8], sink: &mut S) -> Result<(), 
     }
 }
 
-// Answers the lines of a script that is not too long.
+// Memory for a strip.
+fn strip_memory(heap: Global) -> Result<Box<StripMemory>, AllocError> {
+    Ok(Box::new(heap, [0; LONGEST_STRIP])?)
+}
+
+// Answers the lines of a text.
 fn answer_lines<S: Sink>(heap: Global, text: &[u8], sink: &mut S) -> Result<(), Stopped<S::Error>>
-    requires { length text.now ≤ 16384 }
-    ensures ok { OnOk result
-        (AnswersText S.with_one (S.got sink.old) (S.got sink.new) text.now) }
-    ensures err { OnErr result
-        (BeginsText S.with_one (S.got sink.old) (S.got sink.new) text.now) }
+    ensures ok { OnOk result (AnswersLines S.with_one (S.got sink.old) (S.got sink.new)
+        (LinesAnswered first_state (pieces 10 text.now))) }
+    ensures err { OnErr result (BeginsLines S.with_one (S.got sink.old) (S.got sink.new)
+        (LinesAnswered first_state (pieces 10 text.now))) }
 {
-    let mut script = Script::new(heap);
+    let mut first = strip_memory(heap)?;
+    let mut second = strip_memory(heap)?;
+    answer_plans(Drafts::new(heap, &mut first, &mut second), text, sink)
+}
+
+// Answers the lines of a text: writes plans, up to the first call that is taken.
+fn answer_plans<S: Sink>(
+    mut drafts: Drafts<'_>,
+    text: &[u8],
+    sink: &mut S,
+) -> Result<(), Stopped<S::Error>>
+    requires { drafts_state drafts ≡ first_state }
+    ensures ok { OnOk result (AnswersLines S.with_one (S.got sink.old) (S.got sink.new)
+        (LinesAnswered first_state (pieces 10 text.now))) }
+    ensures err { OnErr result (BeginsLines S.with_one (S.got sink.old) (S.got sink.new)
+        (LinesAnswered first_state (pieces 10 text.now))) }
+{
     let mut lines = Pieces::new(text, b'\n');
+    while let Some(line) = lines.next() {
+        if lines.is_done() {
+            take_rest(line, sink).map_err(Stopped::Sink)?;
+        } else if drafts.line(line, sink)? {
+            // the line is a call, and ends the writing of plans
+            return answer_calls(&drafts, line, lines, sink).map_err(Stopped::Sink);
+        }
+    }
+    Ok(())
+}
+
+// Answers the lines of a text from the first call that is taken on.
+fn answer_calls<S: Sink>(
+    drafts: &Drafts<'_>,
+    first: &[u8],
+    mut lines: Pieces,
+    sink: &mut S,
+) -> Result<(), S::Error>
+    requires { none_left (left lines) ≡ false }
+    ensures ok { OnOk result (AnswersLines S.with_one (S.got sink.old) (S.got sink.new)
+        (LinesAnswered (once_called (drafts_state drafts.now)) (first.now ∷ left lines.entry))) }
+    ensures err { OnErr result (BeginsLines S.with_one (S.got sink.old) (S.got sink.new)
+        (LinesAnswered (once_called (drafts_state drafts.now)) (first.now ∷ left lines.entry))) }
+{
+    let mut calls = Calls::new(drafts);
+    calls.line(first, sink)?;
     while let Some(line) = lines.next() {
         if lines.is_done() {
             take_rest(line, sink)?;
         } else {
-            script.line(line, sink)?;
+            calls.line(line, sink)?;
         }
     }
     Ok(())
 }
 
 // Answers what stands behind the last byte 10: a line cut short, unless nothing stands there.
-fn take_rest<S: Sink>(rest: &[u8], sink: &mut S) -> Result<(), Stopped<S::Error>>
+fn take_rest<S: Sink>(rest: &[u8], sink: &mut S) -> Result<(), S::Error>
     ensures nothing { rest.now ≡ [] → S.got sink.new ≡ S.got sink.old }
     ensures cut_short { rest.now ≢ [] → OnOk result (S.got sink.new
         ≡ S.with_one (S.got sink.old) (LineReply.Refused Refusal.BadLine)) }
@@ -68,5 +120,5 @@ fn take_rest<S: Sink>(rest: &[u8], sink: &mut S) -> Result<(), Stopped<S::Error>
     if rest.is_empty() {
         return Ok(());
     }
-    give(sink, LineReply::Refused(Refusal::BadLine))
+    sink.take(LineReply::Refused(Refusal::BadLine))
 }

@@ -1,3 +1,4 @@
+pub mod BankWalks
 mod Beside
 pub mod Crossing
 pub mod Ends

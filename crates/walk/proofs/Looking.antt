@@ -5,7 +5,8 @@ use Rattle.std.proofs.lemmas.Bool.{both_ways}
 use Rattle.repeat.specs.Marks.{after, mark_of}
 use Rattle.repeat.specs.SearchStep.{search_from}
 use Rattle.repeat.proofs.Ever.{ever_shown}
-use Rattle.repeat.proofs.Look.{look, look_finds}
+use Rattle.repeat.proofs.Look.{look_finds}
+use Rattle.repeat.specs.Looking.{look}
 use Rattle.repeat.proofs.Unique.{only}
 use Rattle.books.specs.Slots.{books_at, fault_at}
 use Rattle.readings.specs.Firsts.{first_of}

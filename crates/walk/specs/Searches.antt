@@ -6,7 +6,6 @@ use Rattle.books.specs.declared.row.Row.{Row}
 use Rattle.repeat.specs.Finds.{Finds, Stepping}
 use Rattle.repeat.specs.declared.found.NoRepeat.{NoRepeat}
 use Rattle.repeat.specs.declared.found.Repeat.{Repeat}
-use Rattle.walk.specs.StepLaws.{lasting}
 use Rattle.walk.specs.Steps.{walk_alike, walk_fault, walk_next, walk_stopped}
 use Rattle.walk.specs.Walks.{last_instant}
 
@@ -19,7 +18,6 @@ module _ {Pos : Type 0} (kind : Meaning Pos) where
         next = walk_next kind;
         stopped = walk_stopped kind;
         alike = walk_alike kind;
-        lasting = lasting kind;
       }
 
   -- how the search of a walk ends: for the first repeat of policy and books, up to the walk's last

@@ -39,9 +39,9 @@ module _ {Pos : Type 0} (kind : Meaning Pos) where
       ∙ ap (λ (a : Answer). fault a (books_at (kind.course p) rs n)) (first_at p n)
 
   -- where books are equal and positions compare yes, the same faults follow, or none
-  pub lasting : (s t : Pos × List Row) → walk_alike kind s t ≡ true → (n : ℕ)
+  pub alike_lasts : (s t : Pos × List Row) → walk_alike kind s t ≡ true → (n : ℕ)
       → walk_fault kind (after (walk_next kind) n s) ≡ walk_fault kind (after (walk_next kind) n t)
-  lasting s t e n =
+  alike_lasts s t e n =
       let p = and_parts _ _ e in
       let rows = rows_from s.1 t.1 p.0 in
       let agree = kind.agree s.0 t.0 p.1 in

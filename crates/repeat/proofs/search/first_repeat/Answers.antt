@@ -18,6 +18,6 @@ returns-in-Some g c =
     record {
       found = found;
       only = λ x f. only m.meaning s limit x (Ok end) f found;
-      faultless = ever_faultless m.meaning s limit end.mark end.instant found;
+      faultless = λ lasts. ever_faultless m.meaning s limit lasts end.mark end.instant found;
       marks = largest;
     }

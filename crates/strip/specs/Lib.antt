@@ -1,0 +1,16 @@
+pub mod Answers
+pub mod Arrays
+pub mod WellClosed
+pub mod Positions
+pub mod Held
+pub mod Sames
+pub mod Meanings
+pub mod Parts
+pub mod Playing
+pub mod Players
+pub mod Plays
+pub mod Closings
+pub mod Walked
+pub mod Closers
+pub mod LaidIn
+pub mod Layings
