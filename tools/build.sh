@@ -1,6 +1,6 @@
 # shellcheck shell=bash
-# Builds the proved programs of this repository where they are missing or older than their sources. ./rehearse, ./examples
-# and bench/run source it; each sets `me`, its name in messages, first.
+# Builds the proved programs of this repository where they are missing or older than their sources. ./rehearse, ./examples,
+# ./read-show, ./write-show and bench/run source it; each sets `me`, its name in messages, first.
 set -euo pipefail
 
 me=${me-$0}
@@ -12,6 +12,14 @@ fail() {
     shift
     printf '%s\n' "$@" >&2
     exit "$status"
+}
+
+# take_input FILE: the script then reads this file as its standard input; ends it where the file cannot be read
+take_input() {
+    [ -e "$1" ] || fail 1 "$me: there is no file '$1'"
+    [ ! -d "$1" ] || fail 1 "$me: '$1' is a folder"
+    [ -r "$1" ] || fail 1 "$me: '$1' cannot be read"
+    exec <"$1"
 }
 
 # program_of NAME: the path of a crate's program
@@ -85,10 +93,11 @@ last_lines() {
     grep -vE '^(logic|statements|library|crate|axioms|so far:) |^only=|: proved( where .*)?$|^ |^$' "$1" | tail -n 15
 }
 
-# build NAME: builds a crate's program if it has to be built. What rt says goes to a log. Where rt fails, the script ends, and
-# runs no older program.
+# build NAME [WORD..]: builds a crate's program if it has to be built. What rt says goes to a log. Where rt fails, the script
+# ends, and runs no older program. The words are the arguments with which the program ends well on empty input.
 build() {
     local name=$1 program folder log shown crates began
+    shift
     must_build "$name" || return 0
     check_rt "$name"
     program=$(program_of "$name")
@@ -102,7 +111,7 @@ build() {
     began=$(mktemp "$folder/began.XXXXXX")
     : >"$log"
     # `rt run` builds a program and runs it, here on empty input
-    if ! (cd "$top/crates/$name" && rt run) </dev/null 2>&1 | tee -a "$log" | tell_progress "${crates[@]}" ||
+    if ! (cd "$top/crates/$name" && rt run -- "$@") </dev/null 2>&1 | tee -a "$log" | tell_progress "${crates[@]}" ||
         [ ! -x "$program" ]; then
         rm -f "$began"
         fail 1 "$me: the program $name was not built; $shown ends with" "$(last_lines "$log")"

@@ -6,11 +6,12 @@ use Rattle.repeat.specs.Looking.{look}
 use Rattle.strip.specs.WellClosed.{WellClosed}
 use Rattle.strip.specs.Meanings.{strip_meaning}
 use Rattle.strip.specs.Positions.{strip_course}
+use Rattle.strip.specs.Strips.{Strip, laid_strip, start_of}
 use Rattle.walk.specs.Walks.{Walks, granted, last_instant, refused}
 use Rattle.walk.proofs.Looking.{walk_computes, walk_within, walks_computed}
 use Rattle.examples.specs.Lists.{new_books, readings_s, readings_t, readings_x, readings_z}
 use Rattle.examples.specs.StripRules.{outside}
-use Rattle.examples.specs.Strips.{SampleAt, SamplesGive, Strip, samples_before, start_of, strip_on}
+use Rattle.examples.specs.Strips.{SampleAt, SamplesGive, samples_before}
 use Rattle.examples.proofs.Gives.{each_below}
 use Rattle.examples.specs.declared.ending.Ending.TheVariants.{Slots}
 
@@ -29,48 +30,48 @@ slots_z =
     ∷ 1 ∷ 1 ∷ 2 ∷ 2 ∷ 1 ∷ 1 ∷ []
 
 abbrev pub strip_x : Strip
-strip_x = record { slots = slots_x; first = 63; last = 78 }
+strip_x = record { rows = readings_x; slots = slots_x; first = 63; last = 78 }
 
 abbrev pub strip_z : Strip
-strip_z = record { slots = slots_z; first = 15; last = 22 }
+strip_z = record { rows = readings_z; slots = slots_z; first = 15; last = 22 }
 
-pub made_x : strip_on readings_x 89 ≡ Ok strip_x
-unfolding strip_on look first_of
+pub made_x : laid_strip readings_x 89 ≡ Ok strip_x
+unfolding look first_of
 made_x = refl
 
-pub not_made_x : strip_on readings_x 88 ≡ Err (9, [])
-unfolding strip_on look first_of
+pub not_made_x : laid_strip readings_x 88 ≡ Err (9, [])
+unfolding look first_of
 not_made_x = refl
 
-pub made_z : strip_on readings_z 30 ≡ Ok strip_z
-unfolding strip_on look first_of
+pub made_z : laid_strip readings_z 30 ≡ Ok strip_z
+unfolding look first_of
 made_z = refl
 
-pub not_made_z : strip_on readings_z 29 ≡ Err (9, [])
-unfolding strip_on look first_of
+pub not_made_z : laid_strip readings_z 29 ≡ Err (9, [])
+unfolding look first_of
 not_made_z = refl
 
-pub not_made_t : strip_on readings_t 88 ≡ Err (8, 3 ∷ [])
-unfolding strip_on look first_of
+pub not_made_t : laid_strip readings_t 88 ≡ Err (8, 3 ∷ [])
+unfolding look first_of
 not_made_t = refl
 
-more_x : walk_within strip_meaning last_instant (start_of readings_x strip_x) (new_books readings_x)
+more_x : walk_within strip_meaning last_instant (start_of strip_x) (new_books readings_x)
     ≡ granted 63 16
 unfolding walk_computes
 more_x = refl
 
-outside_s : walk_within strip_meaning last_instant (start_of readings_s outside) (new_books readings_s)
+outside_s : walk_within strip_meaning last_instant (start_of outside) (new_books readings_s)
     ≡ refused (12, 2 ∷ 1 ∷ [])
 unfolding walk_computes
 outside_s = refl
 
-pub strip_x_walks : Walks strip_meaning (start_of readings_x strip_x) (new_books readings_x) (granted 63 16)
+pub strip_x_walks : Walks strip_meaning (start_of strip_x) (new_books readings_x) (granted 63 16)
 strip_x_walks =
-    walks_computed strip_meaning (start_of readings_x strip_x) (new_books readings_x) _ more_x
+    walks_computed strip_meaning (start_of strip_x) (new_books readings_x) _ more_x
 
-pub outside_walks : Walks strip_meaning (start_of readings_s outside) (new_books readings_s) (refused (12, 2 ∷ 1 ∷ []))
+pub outside_walks : Walks strip_meaning (start_of outside) (new_books readings_s) (refused (12, 2 ∷ 1 ∷ []))
 outside_walks =
-    walks_computed strip_meaning (start_of readings_s outside) (new_books readings_s) _ outside_s
+    walks_computed strip_meaning (start_of outside) (new_books readings_s) _ outside_s
 
 -- the strip from outside is one for a row
 pub outside_granted : WellClosed 1 outside.slots 4 1 3
@@ -87,7 +88,7 @@ outside_granted =
 
 -- the course of a player of X
 abbrev pub played_x : Course
-played_x = strip_course (start_of readings_x strip_x)
+played_x = strip_course (start_of strip_x)
 
 at_slot : (k j slot : ℕ) → names (played_x slot).0 k ≡ true → samples_before played_x k slot ≡ j
     → SampleAt played_x k j slot

@@ -1,28 +1,30 @@
 -- Laying on a memory with room and closing makes the strip of a list, or is refused.
-use Rattle.std.proofs.Common.{◌≡◌, ℕ, ◌≤◌, List, [], map, leb, Ok, Err, sym, ap, ◌∙◌}
+use Rattle.std.proofs.Common.{◌≡◌, ℕ, ◌≤◌, List, [], map, leb, Some, None, Ok, Err, refl, sym, ap, ◌∙◌}
 use Rattle.std.proofs.lemmas.Bool.{cond-true, le-leb}
 use Rattle.readings.specs.declared.reading.Reading.{Reading}
 use Rattle.books.specs.Rows.{come_on}
 use Rattle.deferral.specs.Laying.{Laying, lay}
 use Rattle.strip.specs.Closings.{loop_of}
 use Rattle.strip.specs.LaidIn.{lay_within}
-use Rattle.examples.specs.Strips.{close_laid, strip_on, with_loop}
+use Rattle.strip.specs.Strips.{Strip, closed_strip, laid_strip}
 
-module _ (rs : List Reading) (n room : ℕ) (fits : n ≤ room) (laid : Laying) (is : lay_within room rs n ≡ laid) where
+module _ (rs : List Reading) (n room : ℕ) (fits : n ≤ room) where
   -- a memory with room does not count
-  lays : lay rs n ≡ laid
-  lays = sym (cond-true (leb n room) (lay rs n) (Err (6, [])) (le-leb n room fits)) ∙ is
+  lays : (laid : Laying) → lay_within room rs n ≡ laid → lay rs n ≡ laid
+  lays laid is = sym (cond-true (leb n room) (lay rs n) (Err (6, [])) (le-leb n room fits)) ∙ is
 
   -- what is laid is closed
-  pub closes : strip_on rs n ≡ close_laid rs laid
-  unfolding strip_on
-  closes = ap (close_laid rs) lays
+  pub closes : (laid : Laying) → lay_within room rs n ≡ laid → laid_strip rs n ≡ closed_strip rs laid
+  closes laid is = ap (closed_strip rs) (lays laid is)
 
--- with the loop that closing finds
-pub loop_found : (rs ds : List Reading) (n room : ℕ) (slots : List ℕ) (limit : ℕ) (loop : _)
-    → n ≤ room → lay_within room rs n ≡ Ok (slots, limit) → ds ≡ rs
-    → loop_of slots limit (map come_on ds) ≡ loop → strip_on rs n ≡ with_loop slots loop
-loop_found rs ds n room slots limit loop fits is same found =
-    closes rs n room fits (Ok (slots, limit)) is
-    ∙ ap (λ (xs : List Reading). with_loop slots (loop_of slots limit (map come_on xs))) (sym same)
-    ∙ ap (with_loop slots) found
+  module _ (ds : List Reading) (slots : List ℕ) (limit : ℕ) (is : lay_within room rs n ≡ Ok (slots, limit)) (same : ds ≡ rs) where
+    -- with the loop that closing finds
+    pub loop_found : (s : Strip) → s.rows ≡ ds → s.slots ≡ slots → loop_of slots limit (map come_on ds) ≡ Some (s.first, s.last)
+        → laid_strip rs n ≡ Ok s
+    loop_found s rows on found =
+        closes (Ok (slots, limit)) is
+        ∙ rw (← same, found, ← rows, ← on) refl
+
+    -- and refused where there is none
+    pub no_loop : loop_of slots limit (map come_on ds) ≡ None → laid_strip rs n ≡ Err (9, [])
+    no_loop none = closes (Ok (slots, limit)) is ∙ rw (← same, none) refl

@@ -8,10 +8,11 @@ use Rattle.readings.specs.declared.refusal.Refusal.TheVariants.{NextJob, NoLoop,
 use Rattle.policy.specs.Course.{Course, names}
 use Rattle.books.specs.Ages.{Samples}
 use Rattle.strip.specs.Meanings.{strip_meaning}
+use Rattle.strip.specs.Strips.{Strip, laid_strip, start_of}
 use Rattle.walk.specs.Walks.{granted, refused}
 use Rattle.examples.specs.Lists.{readings_s, readings_t, readings_x, readings_z}
 use Rattle.examples.specs.StripRules.{StripRulesGive, outside}
-use Rattle.examples.specs.Strips.{LoopGives, SampleAt, SamplesGive, Strip, StripGives, samples_before, start_of, strip_on}
+use Rattle.examples.specs.Strips.{LoopGives, SampleAt, SamplesGive, StripGives, samples_before}
 use Rattle.examples.specs.declared.strip_example.StripExample.{StripExample}
 use Rattle.examples.specs.declared.strip_example.StripExample.TheVariants.{LoopOfX, NoLoopOfX, LoopOfZ, NoLoopOfZ, LayingOfT, RowTwoOfX, RowThreeOfX, WalkOfX, WalkFromOutside}
 use Rattle.examples.specs.declared.ending.Ending.{Ending}
@@ -21,7 +22,7 @@ use Rattle.examples.proofs.Made.{made_x, made_z, not_made_t, not_made_x, not_mad
 use Rattle.examples.proofs.Only.{walk_only}
 
 -- the strip that is made is known
-pub strip_known : (rs : List Reading) (n : ℕ) (t : Strip) → strip_on rs n ≡ Ok t
+pub strip_known : (rs : List Reading) (n : ℕ) (t : Strip) → laid_strip rs n ≡ Ok t
     → (P : Strip → Type 0) → StripGives rs n P → P t
 strip_known rs n t made P g =
     let this = g.1.0 in
@@ -29,15 +30,15 @@ strip_known rs n t made P g =
     subst P same g.1.1
 
 -- and it is not refused
-pub made_or_not : (rs : List Reading) (n : ℕ) (t : Strip) (r : Refusal) → strip_on rs n ≡ Ok t
-    → strip_on rs n ≡ Err (content r) → ⊥
+pub made_or_not : (rs : List Reading) (n : ℕ) (t : Strip) (r : Refusal) → laid_strip rs n ≡ Ok t
+    → laid_strip rs n ≡ Err (content r) → ⊥
 made_or_not rs n t r made told =
     let both : Ok t ≡ Err (content r) = sym made ∙ told in
     let no : ◌≡◌ {A = ℕ} 0 1 = cc in
     absurd (omega arith)
 
 -- so its loop is known
-loop_only : (rs : List Reading) (n : ℕ) (t : Strip) → strip_on rs n ≡ Ok t
+loop_only : (rs : List Reading) (n : ℕ) (t : Strip) → laid_strip rs n ≡ Ok t
     → (e : Result Ending Refusal) → LoopGives rs n e → e ≡ Ok (Loop t.first t.last)
 loop_only rs n t made (Ok (Loop first last)) g =
     let ends = strip_known rs n t made (λ s. (s.first ≡ first) × (s.last ≡ last)) g in
@@ -48,7 +49,7 @@ loop_only rs n t made (Ok _) g = absurd g
 loop_only rs n t made (Err r) g = absurd (made_or_not rs n t r made g)
 
 -- where there is one, no strip is made
-refusal_only : (rs : List Reading) (n : ℕ) (r : Refusal) → strip_on rs n ≡ Err (content r)
+refusal_only : (rs : List Reading) (n : ℕ) (r : Refusal) → laid_strip rs n ≡ Err (content r)
     → (e : Result Ending Refusal) → LoopGives rs n e → e ≡ Err r
 refusal_only rs n r told (Ok (Loop first last)) g = absurd (made_or_not rs n g.0 r g.1.0 told)
 refusal_only rs n r told (Ok _) g = absurd g
@@ -129,10 +130,10 @@ ending_is LayingOfT e g = refusal_only readings_t 88 (NextJob 3) not_made_t e g
 ending_is RowTwoOfX e g = samples_only played_x 1 0 7 14 22 30 samples_two e (known_x _ g)
 ending_is RowThreeOfX e g = samples_only played_x 2 0 18 35 51 67 samples_three e (known_x _ g)
 ending_is WalkOfX e g =
-    walk_only strip_meaning (start_of readings_x strip_x) readings_x (granted 63 16) strip_x_walks e
+    walk_only strip_meaning (start_of strip_x) readings_x (granted 63 16) strip_x_walks e
     (known_x _ g)
 ending_is WalkFromOutside e g =
-    walk_only strip_meaning (start_of readings_s outside) readings_s (refused (12, 2 ∷ 1 ∷ []))
+    walk_only strip_meaning (start_of outside) readings_s (refused (12, 2 ∷ 1 ∷ []))
     outside_walks e g.walk
 
 pub given_as : (a : StripExample) (r : Result Ending Refusal) → r ≡ the_ending a

@@ -2,22 +2,21 @@
 use Rattle.std.specs.Prelude.{◌≡◌, [], ◌∷◌, Result}
 use Rattle.readings.specs.declared.refusal.Refusal.{Refusal}
 use Rattle.policy.specs.Course.{Course}
-use Rattle.strip.specs.Meanings.{strip_meaning}
 use Rattle.strip.specs.Positions.{strip_course}
-use Rattle.examples.specs.Endings.{WalkGives}
+use Rattle.strip.specs.Strips.{Strip, start_of}
 use Rattle.examples.specs.Lists.{readings_s, readings_t, readings_x, readings_z}
-use Rattle.examples.specs.Strips.{LoopGives, OutsideGives, SamplesGive, Strip, StripGives, start_of}
+use Rattle.examples.specs.Strips.{LoopGives, OutsideGives, PlayerGives, SamplesGive, StripGives}
 use Rattle.examples.specs.declared.ending.Ending.{Ending}
 use Rattle.examples.specs.declared.strip_example.StripExample.{StripExample}
 use Rattle.examples.specs.declared.strip_example.StripExample.TheVariants.{LoopOfX, NoLoopOfX, LoopOfZ, NoLoopOfZ, LayingOfT, RowTwoOfX, RowThreeOfX, WalkOfX, WalkFromOutside}
 
 -- the course of a player of X, laid on 89 slots and closed
 abbrev pub PlayedX : (Course → Type 0) → Type 0
-PlayedX P = StripGives readings_x 89 (λ s. P (strip_course (start_of readings_x s)))
+PlayedX P = StripGives readings_x 89 (λ s. P (strip_course (start_of s)))
 
--- four slots, of which the first runs row 1, with a loop of the others
+-- four slots for S, of which the first runs its row, with a loop of the others
 abbrev pub outside : Strip
-outside = record { slots = 1 ∷ 0 ∷ 0 ∷ 0 ∷ []; first = 1; last = 3 }
+outside = record { rows = readings_s; slots = 1 ∷ 0 ∷ 0 ∷ 0 ∷ []; first = 1; last = 3 }
 
 -- the rules give this ending for an example
 unfoldable pub StripRulesGive : StripExample → Result Ending Refusal → Type 0
@@ -28,9 +27,8 @@ StripRulesGive NoLoopOfZ e = LoopGives readings_z 29 e
 StripRulesGive LayingOfT e = LoopGives readings_t 88 e
 StripRulesGive RowTwoOfX e = PlayedX (λ c. SamplesGive c 1 e)
 StripRulesGive RowThreeOfX e = PlayedX (λ c. SamplesGive c 2 e)
-StripRulesGive WalkOfX e =
-    StripGives readings_x 89 (λ s. WalkGives strip_meaning (start_of readings_x s) readings_x e)
-StripRulesGive WalkFromOutside e = OutsideGives readings_s outside e
+StripRulesGive WalkOfX e = StripGives readings_x 89 (λ s. PlayerGives s e)
+StripRulesGive WalkFromOutside e = OutsideGives outside e
 
 -- and no other
 pub record StripRulesGiveOnly (a : StripExample) (r : Result Ending Refusal) : Type 0 where

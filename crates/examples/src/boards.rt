@@ -2,7 +2,7 @@ use crate::candidates::{Candidates, StripCandidates};
 use crate::exchange::Exchange;
 use crate::lists::list_x;
 use crate::runs;
-use crate::strips::strip_on;
+use crate::strips::laid_strip;
 use crate::written::{AsExpected, WrittenReply};
 use anyhow::anyhow;
 use board::Board;
@@ -81,7 +81,7 @@ fn write_crossings<W: Write>(
 fn write_strip_run<W: Write>(out: &mut W, heap: Global) -> anyhow::Result<()> {
     let mut memory = [0; 89];
     let strip = list_x()
-        .and_then(|x| strip_on(&x, &mut memory, 89))
+        .and_then(|x| laid_strip(&x, &mut memory, 89))
         .map_err(|refusal| anyhow!("the strip of the runs: {refusal}"))?;
     let candidates = StripCandidates::new(&strip).map_err(|refusal| anyhow!(
         "a candidate of the runs: {refusal}"

@@ -1,15 +1,13 @@
-ghost use Rattle.examples.specs.Endings.{WalkGives};
-ghost use Rattle.examples.specs.Lists.{readings_s, readings_x};
+ghost use Rattle.examples.specs.Lists.{readings_x};
 ghost use Rattle.examples.specs.StripRules.{PlayedX, StripRulesGive, StripRulesGiveOnly, outside};
-ghost use Rattle.examples.specs.Strips.{LoopGives, OutsideGives, SamplesGive, StripGives, start_of};
+ghost use Rattle.examples.specs.Strips.{LoopGives, OutsideGives, PlayerGives, SamplesGive, StripGives};
 ghost use Rattle.readings.specs.Lists.{rows_of};
 ghost use Rattle.std.specs.Prelude.{◌≡◌, ◌≤◌};
-ghost use Rattle.strip.specs.Meanings.{strip_meaning};
 
 use crate::ending::Ending;
 use crate::example::walk_ending;
 use crate::lists::{list_s, list_t, list_x, list_z};
-use crate::strips::{first_samples, strip_on};
+use crate::strips::{first_samples, laid_strip};
 use readings::{Readings, Refusal};
 use std::fmt;
 use strip::{ClosedStrip, Player};
@@ -133,7 +131,7 @@ fn loop_ending(list: &Readings, slots: usize) -> Result<Ending, Refusal>
     ensures { LoopGives (rows_of list.now) slots result }
 {
     let mut memory = [0; 89];
-    let strip = strip_on(list, &mut memory, slots)?;
+    let strip = laid_strip(list, &mut memory, slots)?;
     Ok(Ending::Loop {
         first: strip.first(),
         last: strip.last(),
@@ -147,25 +145,24 @@ fn samples_of_x(k: u16) -> Result<Ending, Refusal>
 {
     let x = list_x()?;
     let mut memory = [0; 89];
-    let strip = strip_on(&x, &mut memory, 89)?;
+    let strip = laid_strip(&x, &mut memory, 89)?;
     // each row of X is sampled five times in its first 89 slots
     Ok(first_samples(Player::new(&strip), k, 89).unwrap())
 }
 
 // The walk of X, laid on 89 slots and played.
 fn walk_of_x() -> Result<Ending, Refusal>
-    ensures { StripGives readings_x 89 (λ s.
-        WalkGives strip_meaning (start_of readings_x s) readings_x result) }
+    ensures { StripGives readings_x 89 (λ s. PlayerGives s result) }
 {
     let x = list_x()?;
     let mut memory = [0; 89];
-    let strip = strip_on(&x, &mut memory, 89)?;
+    let strip = laid_strip(&x, &mut memory, 89)?;
     walk_ending(&x, Player::new(&strip))
 }
 
 // The walk of S, played on four slots from outside.
 fn walk_from_outside() -> Result<Ending, Refusal>
-    ensures { OutsideGives readings_s outside result }
+    ensures { OutsideGives outside result }
 {
     let list = list_s()?;
     let mut memory = [1, 0, 0, 0];

@@ -1,9 +1,9 @@
-ghost use Rattle.examples.specs.Strips.{SamplesGive, samples_before, strip_of, strip_on};
+ghost use Rattle.examples.specs.Strips.{SamplesGive, samples_before};
 ghost use Rattle.policy.specs.Policies.{course_of};
 ghost use Rattle.readings.specs.Lists.{rows_of};
 ghost use Rattle.readings.specs.Refusals.{content};
 ghost use Rattle.std.specs.Prelude.{◌≡◌, ◌<◌, ◌≤◌, Err, IfErr, IfNone, IfOk, IfSome, Ok, length};
-ghost use Rattle.strip.specs.Held.{list_rows};
+ghost use Rattle.strip.specs.Strips.{laid_strip, strip_of};
 
 use crate::ending::Ending;
 use policy::Policy;
@@ -12,15 +12,14 @@ use strip::{ClosedStrip, LayingStrip};
 
 // Lays a list on the first `slots` bytes of a memory, and closes it. Refused as laying and closing
 // refuse.
-pub(crate) fn strip_on<'a>(
+pub(crate) fn laid_strip<'a>(
     list: &Readings,
     memory: &'a mut [u8],
     slots: usize,
 ) -> Result<ClosedStrip<'a>, Refusal>
     requires { slots ≤ length memory.old }
-    ensures ok { IfOk result (λ c. strip_on (rows_of list.now) slots ≡ Ok (strip_of c)) }
-    ensures list { IfOk result (λ c. list_rows c ≡ rows_of list.now) }
-    ensures err { IfErr result (λ e. strip_on (rows_of list.now) slots ≡ Err (content e)) }
+    ensures ok { IfOk result (λ c. laid_strip (rows_of list.now) slots ≡ Ok (strip_of c)) }
+    ensures err { IfErr result (λ e. laid_strip (rows_of list.now) slots ≡ Err (content e)) }
 {
     let mut strip = LayingStrip::new(memory);
     strip.lay(list, slots)?;

@@ -1,12 +1,13 @@
 -- The numbers given make a list exactly when no row has a refusal.
-use Rattle.std.proofs.Common.{◌≡◌, ℕ, ◌+◌, ◌-◌, ◌<◌, ◌≤◌, List, map, length, get_or, take, None, sym, ap, ◌∙◌, arith}
+use Rattle.std.proofs.Common.{◌≡◌, ℕ, ◌+◌, ◌-◌, ◌<◌, ◌≤◌, Bool, true, false, cond, List, [], map, length, get_or, take, Some, None, Option, refl, sym, ap, ◌∙◌, arith}
 use Rattle.std.proofs.lemmas.List.{get_or-take, get_or-map, length-map, length-take-le}
 use Rattle.std.proofs.lemmas.List.Sorted.{IsNonDecreasingBy-from_all_adjacent}
-use Rattle.readings.specs.Proposals.{kept, no_proposal, refusal_at, rows_refusal}
+use Rattle.readings.specs.Proposals.{is_list_length, kept, list_refusal, no_proposal, refusal_at, rows_refusal}
 use Rattle.readings.specs.Ranges.{WellMade, blank}
+use Rattle.readings.specs.Refusals.{Content}
 use Rattle.readings.specs.declared.reading.Proposal.{Proposal}
 use Rattle.readings.specs.declared.reading.Reading.{Reading}
-use Rattle.readings.proofs.Refused.{Sound, from_sound, none_refused, not_there, nowhere, sound}
+use Rattle.readings.proofs.Refused.{Sound, counted, from_sound, none_refused, not_there, nowhere, sound, unrefused}
 
 -- numbers that a reading can hold
 pub record Fits (p : Proposal) : Type 0 where
@@ -73,3 +74,14 @@ unrefused_rows ps w = none_refused ps (λ k h. from_sound ps k h (holds k h))
           work_fits = validity.2;
           ordered = rw (row_at ps (k - 1) blank (omega arith), row_at ps k blank h) at (w.ordered (k - 1) k blank (omega arith) i);
         }
+
+-- numbers that are not refused make a list
+pub made : (ps : List Proposal) → list_refusal ps ≡ None → WellMade (map kept ps)
+made ps e =
+    let both = unrefused_list (is_list_length (length ps)) (rows_refusal ps) e in
+    let n = counted (length ps) (sym both.0) in
+    well_made ps (unrefused ps (sym both.1)) n.0 n.1
+  where
+    unrefused_list : (within : Bool) (rows : Option Content) → cond within rows (Some (1, [])) ≡ None → (within ≡ true) × (rows ≡ None)
+    unrefused_list true rows e = (refl, e)
+    unrefused_list false rows e = absurd cc

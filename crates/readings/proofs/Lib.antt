@@ -1,3 +1,3 @@
 pub mod Firsts
-mod Kept
+pub mod Kept
 mod Refused

@@ -10,6 +10,8 @@ mod scripts;
 #[cfg(test)]
 mod searches;
 #[cfg(test)]
+mod shows;
+#[cfg(test)]
 mod slots;
 #[cfg(test)]
 mod strips;

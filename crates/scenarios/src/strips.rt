@@ -11,7 +11,7 @@ fn list_z() -> Result<Readings, Refusal> {
 }
 
 // The closed strip of a list on so many slots.
-fn closed<'a>(
+pub(crate) fn closed<'a>(
     list: &Readings,
     memory: &'a mut [u8],
     slots: usize,

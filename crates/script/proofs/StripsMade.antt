@@ -1,16 +1,18 @@
 -- The strips of plans, as the code makes them.
-use Rattle.std.proofs.Common.{◌≡◌, ℕ, ◌≤◌, leb, List, [], ◌∷◌, length, map, take, set, Ok, Err, None, inl, inr, refl, ◌∙◌, arith}
+use Rattle.std.proofs.Common.{◌≡◌, ℕ, ◌+◌, ◌-◌, ◌≤◌, leb, List, [], ◌∷◌, length, map, take, set, Some, None, Option, Ok, Err, inl, inr, refl, subst, ◌∙◌, arith}
 use Rattle.std.proofs.lemmas.Bool.{cases_Bool}
 use Rattle.std.proofs.lemmas.List.{length-set}
 use Rattle.std.proofs.lemmas.List.Elements.{All-cons, All-nil}
 use Rattle.readings.specs.declared.reading.Reading.{Reading}
 use Rattle.books.specs.Rows.{come_on}
-use Rattle.deferral.specs.Laying.{lay}
+use Rattle.deferral.specs.Laying.{Laying, lay}
 use Rattle.strip.specs.Closings.{loop_of}
 use Rattle.strip.specs.LaidIn.{lay_within}
-use Rattle.strip.specs.Positions.{start_at}
+use Rattle.strip.specs.Meanings.{strip_meaning}
+use Rattle.strip.specs.Strips.{Strip, closed_strip, laid_strip, start_of, with_loop}
 use Rattle.strip.specs.WellClosed.{WellClosed}
-use Rattle.script.specs.Strips.{empty_strip, laid_strip}
+use Rattle.walk.specs.Walks.{Walks, granted}
+use Rattle.script.specs.Strips.{LoopWalked, empty_strip}
 
 -- a memory whose first two bytes are set to 0
 module _ (m : List ℕ) (room : 2 ≤ length m) where
@@ -34,9 +36,10 @@ module _ (m : List ℕ) (room : 2 ≤ length m) where
         named = rw two_empty (All-cons (λ row. row ≤ rows) 0 (0 ∷ []) (omega arith) (All-cons (λ row. row ≤ rows) 0 [] (omega arith) (All-nil (λ row. row ≤ rows))));
       }
 
-  pub starts_empty : (rs given : List Reading) (slots : List ℕ) (first last : ℕ) → rs ≡ given → slots ≡ take 2 (set (set m 0 0) 1 0) → first ≡ 1 → last ≡ 1
-      → start_at rs slots first last ≡ empty_strip given
-  starts_empty rs given slots first last e f g h = rw (e, f ∙ two_empty, g, h) refl
+  -- which is the empty strip of its list
+  pub is_empty : (s : Strip) (given : List Reading) → s.rows ≡ given → s.slots ≡ take 2 (set (set m 0 0) 1 0) → s.first ≡ 1
+      → s.last ≡ 1 → s ≡ empty_strip given
+  is_empty s given e f g h = let slots : s.slots ≡ 0 ∷ 0 ∷ [] = f ∙ two_empty in rw (e, slots, g, h) refl
 
 -- more slots than a strip may have are refused, whether or not the memory has room
 pub laid_within : (room : ℕ) (rs : List Reading) (n : ℕ) → room ≡ 32767 → lay_within room rs n ≡ lay rs n
@@ -50,3 +53,21 @@ laid_within room rs n e =
 pub not_closed : (rs given : List Reading) (n : ℕ) (laid : List ℕ × ℕ) → lay given n ≡ Ok laid → rs ≡ given
     → loop_of laid.0 laid.1 (map come_on rs) ≡ None → laid_strip given n ≡ Err (9, [])
 not_closed rs given n laid e f none = rw e (rw (rw f at none) refl)
+
+looped_for : (rows : List Reading) (slots : List ℕ) (loop : Option (ℕ × ℕ)) (s : Strip) → with_loop rows slots loop ≡ Ok s → s.rows ≡ rows
+looped_for rows slots (Some loop) s e = cc
+looped_for rows slots None s e = cc
+
+closed_for : (rows : List Reading) (laid : Laying) (s : Strip) → closed_strip rows laid ≡ Ok s → s.rows ≡ rows
+closed_for rows (Ok laid) s e = looped_for rows laid.0 (loop_of laid.0 laid.1 (map come_on rows)) s e
+closed_for rows (Err refusal) s e = cc
+
+-- a strip that is laid for a list has its rows
+laid_for : (rows : List Reading) (n : ℕ) (s : Strip) → laid_strip rows n ≡ Ok s → s.rows ≡ rows
+laid_for rows n s e = closed_for rows (lay rows n) s e
+
+-- so the walk with the books of that list grants it
+pub walked_for : (rows : List Reading) (n : ℕ) (s : Strip) → laid_strip rows n ≡ Ok s → LoopWalked s
+    → Walks strip_meaning (start_of s) (map come_on rows) (granted s.first (s.last + 1 - s.first))
+walked_for rows n s e =
+    subst (λ (xs : List Reading). Walks strip_meaning (start_of s) (map come_on xs) (granted s.first (s.last + 1 - s.first))) (laid_for rows n s e)

@@ -12,10 +12,10 @@ use Rattle.planner.specs.declared.timing.Timing.{Timing}
 use Rattle.periodic.specs.Positions.{phases_of}
 use Rattle.periodic.specs.Phases.{begun}
 use Rattle.strip.specs.Held.{loop_start}
-use Rattle.strip.specs.Positions.{Position}
+use Rattle.strip.specs.Strips.{Strip, laid_strip, start_of}
 use Rattle.walk.specs.Walks.{Walks, granted}
 use Rattle.script.specs.Boards.{BankPosition, policies}
-use Rattle.script.specs.Strips.{empty_strip, laid_strip}
+use Rattle.script.specs.Strips.{empty_strip}
 use Rattle.script.specs.declared.plan.Plan.{Plan}
 use Rattle.script.specs.declared.plan.Planner.{Planner}
 use Rattle.script.specs.declared.plan.Planner.TheVariants.{HalfHalf, MoreLess, Defer}
@@ -31,12 +31,12 @@ plan_of p =
 
 -- a policy by periods; the strip beside it is empty
 abbrev pub by_periods : List Reading → Result (List Timing) Content → Result BankPosition Content
-by_periods rows (Ok timings) = Ok (map begun timings, empty_strip rows, 1)
+by_periods rows (Ok timings) = Ok (map begun timings, start_of (empty_strip rows), 1)
 by_periods rows (Err refusal) = Err refusal
 
 -- a strip that is played; the periods beside it are those of Half-Half
-abbrev pub by_strip : List Reading → Result Position Content → Result BankPosition Content
-by_strip rows (Ok strip) = Ok (map begun (half_half rows), strip, 2)
+abbrev pub by_strip : List Reading → Result Strip Content → Result BankPosition Content
+by_strip rows (Ok strip) = Ok (map begun (half_half rows), start_of strip, 2)
 by_strip rows (Err refusal) = Err refusal
 
 -- the policy that a planner gives to the rows of a list, or its refusal

@@ -1,8 +1,8 @@
 ghost use Rattle.readings.specs.Lists.{rows_of};
 ghost use Rattle.readings.specs.Refusals.{content};
-ghost use Rattle.script.specs.Strips.{LoopWalked, empty_strip, laid_strip};
+ghost use Rattle.script.specs.Strips.{LoopWalked, empty_strip};
 ghost use Rattle.std.specs.Prelude.{◌≡◌, Ok, Err, IfErr, IfOk};
-ghost use Rattle.strip.specs.Held.{loop_start};
+ghost use Rattle.strip.specs.Strips.{laid_strip, strip_of};
 
 use readings::{Readings, Refusal};
 use strip::{ClosedStrip, LayingStrip};
@@ -15,7 +15,7 @@ pub type StripMemory = [u8; LONGEST_STRIP];
 
 // A strip of two empty slots, the second its loop, for a plan that plays none.
 pub(crate) fn empty_strip<'a>(list: &Readings, memory: &'a mut StripMemory) -> ClosedStrip<'a>
-    ensures { loop_start result ≡ empty_strip (rows_of list.now) }
+    ensures { strip_of result ≡ empty_strip (rows_of list.now) }
 {
     memory[0] = 0;
     memory[1] = 0;
@@ -33,9 +33,9 @@ pub(crate) fn laid_strip<'a>(
     memory: &'a mut StripMemory,
 ) -> Result<ClosedStrip<'a>, Refusal>
     ensures ok { IfOk result (λ strip.
-        laid_strip (rows_of list.now) slots ≡ Ok (loop_start strip)) }
+        laid_strip (rows_of list.now) slots ≡ Ok (strip_of strip)) }
     ensures err { IfErr result (λ e. laid_strip (rows_of list.now) slots ≡ Err (content e)) }
-    ensures walked { IfOk result (λ strip. LoopWalked (rows_of list.now) (loop_start strip)) }
+    ensures walked { IfOk result (λ strip. LoopWalked (strip_of strip)) }
 {
     let mut strip = LayingStrip::new(memory);
     strip.lay(list, slots.into())?;

@@ -2,6 +2,7 @@ pub mod Bits
 pub mod Booked
 pub mod BookedRows
 pub mod ClosingRuns
+mod ClosedAs
 mod ClosedLaid
 pub mod Extended
 pub mod Found

@@ -14,3 +14,4 @@ pub mod Walked
 pub mod Closers
 pub mod LaidIn
 pub mod Layings
+pub mod Strips

@@ -22,6 +22,7 @@ impl<'a> ClosedStrip<'a> {
     ghost use Rattle.readings.specs.Ranges.{WellMade};
     ghost use Rattle.readings.specs.Refusals.{content};
     ghost use Rattle.strip.specs.Held.{loop_first, loop_last, memory_of, list_rows, slots_of};
+    ghost use Rattle.strip.specs.Strips.{IsClosed, strip_of};
 
     /// A strip that is given: its list, the bytes of its slots, which lie first in a memory, and
     /// its loop. Refused with 10 for any number or slot out of range: a strip has 1 to 32,767
@@ -83,10 +84,12 @@ impl<'a> ClosedStrip<'a> {
         self.list.list()
     }
 
-    // The rows of the list.
-    pub(crate) fn rows(&self) -> &[Reading]
+    /// The rows of the list, first to last: 1 to 16, each in range, no two with one id, in order of
+    /// validity. The slots are closed for them.
+    pub fn rows(&self) -> &[Reading]
         ensures value { result.now ≡ list_rows self.now }
         ensures law { WellMade result.now }
+        ensures closed { IsClosed (strip_of self.now) }
     {
         self.list.rows()
     }

@@ -3,6 +3,7 @@ use Rattle.strip.specs.Meanings.{strip_meaning}
 use Rattle.strip.specs.Players.{position_of}
 use Rattle.examples.specs.Endings.{WalkGives}
 use Rattle.examples.specs.Lists.{readings_x}
+use Rattle.examples.proofs.Made.{made_x, strip_x}
 use Rattle.examples.proofs.StripRunning.{not_refused_x, started_x}
 use Rattle.examples.proofs.strip_example.walk_of_x.Goals as goal
 
@@ -12,8 +13,11 @@ returns-in_err-strip c =
     c.in_err-strip.ensures.err)
 
 pub returns : goal.returns
-returns c =
-    let is = c.in_ok-strip.ensures in
-    started_x (rows_of c.in_ok-x.x) _ _ (position_of c.new.result) c.in_ok-x.ensures is.list is.ok
-    c.new.ensures.start (λ p. WalkGives strip_meaning p readings_x c.walk_ending.result)
-    (rw c.in_ok-x.ensures at c.walk_ending.ensures)
+returns c = (
+  strip_x,
+  (
+    made_x,
+    started_x (rows_of c.in_ok-x.x) _ (position_of c.new.result) c.in_ok-x.ensures c.in_ok-strip.ensures.ok c.new.ensures.start
+        (λ p. WalkGives strip_meaning p readings_x c.walk_ending.result) (rw c.in_ok-x.ensures at c.walk_ending.ensures),
+  ),
+)

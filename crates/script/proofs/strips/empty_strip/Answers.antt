@@ -1,7 +1,8 @@
 use Rattle.std.proofs.Common.{arith}
 use Rattle.std.proofs.lemmas.Bool.{false≢true}
 use Rattle.readings.specs.Lists.{rows_of}
-use Rattle.script.proofs.StripsMade.{empty_closes, starts_empty}
+use Rattle.strip.specs.Strips.{strip_of}
+use Rattle.script.proofs.StripsMade.{empty_closes, is_empty}
 use Rattle.script.proofs.strips.empty_strip.Goals as goal
 
 pub unreachable-requires : goal.unreachable-requires
@@ -10,4 +11,4 @@ unreachable-requires c = false≢true (c.in-Err.ensures.granted.1 (empty_closes 
 pub returns : goal.returns
 returns c =
     let e = c.in-Ok.ensures in
-    starts_empty c.args.memory.now (omega arith) _ (rows_of c.args.list.now) _ _ _ c.in-Ok.ensures.list c.in-Ok.ensures.slots c.in-Ok.ensures.first c.in-Ok.ensures.last
+    is_empty c.args.memory.now (omega arith) (strip_of c.in-Ok.strip) (rows_of c.args.list.now) e.list e.slots e.first e.last

@@ -1,11 +1,11 @@
-use Rattle.std.proofs.Common.{◌≤◌, None, Some, Err}
+use Rattle.std.proofs.Common.{◌≤◌, Err}
 use Rattle.std.proofs.lemmas.Result.{err_from_is_err_and}
 use Rattle.readings.specs.Lists.{rows_of}
 use Rattle.readings.specs.Refusals.{content}
-use Rattle.strip.specs.Held.{loop_first, loop_last}
 use Rattle.strip.specs.Layings.{room_of}
-use Rattle.examples.proofs.Making.{closes, loop_found}
-use Rattle.examples.proofs.strips.strip_on.Goals as goal
+use Rattle.strip.specs.Strips.{strip_of}
+use Rattle.examples.proofs.Making.{closes, loop_found, no_loop}
+use Rattle.examples.proofs.strips.laid_strip.Goals as goal
 
 pub returns-in_err-lay-clause-err : goal.returns-in_err-lay-clause-err
 returns-in_err-lay-clause-err c =
@@ -20,12 +20,11 @@ returns-in-Ok-clause-ok c =
     let fits : c.args.slots ≤ room_of c.new-strip.result = rw c.new-strip.ensures.memory c.requires in
     let laid = c.in_ok-lay.ensures in
     let is = c.in-Ok.ensures in
-    rw is.slots
-    (loop_found (rows_of c.args.list.now) _ c.args.slots _ _ _ (Some (loop_first c.in-Ok.closed, loop_last c.in-Ok.closed)) fits laid.ok laid.list is.value)
+    loop_found (rows_of c.args.list.now) c.args.slots _ fits _ _ _ laid.ok laid.list (strip_of c.in-Ok.closed) is.list is.slots is.value
 
 pub returns-in-Err-clause-err : goal.returns-in-Err-clause-err
 returns-in-Err-clause-err c =
     let fits : c.args.slots ≤ room_of c.new-strip.result = rw c.new-strip.ensures.memory c.requires in
     let laid = c.in_ok-lay.ensures in
     let is = c.in-Err.ensures in
-    rw is.err (loop_found (rows_of c.args.list.now) _ c.args.slots _ _ _ None fits laid.ok laid.list is.none)
+    rw is.err (no_loop (rows_of c.args.list.now) c.args.slots _ fits _ _ _ laid.ok laid.list is.none)

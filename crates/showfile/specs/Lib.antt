@@ -1,0 +1,6 @@
+pub mod Blocks
+pub mod Spelling
+pub mod Told
+pub mod Tests
+pub mod Reading
+pub mod Heads

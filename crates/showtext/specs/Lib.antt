@@ -1,0 +1,5 @@
+pub mod Told
+pub mod Scripted
+pub mod Spelled
+pub mod Plans
+pub mod Stored
