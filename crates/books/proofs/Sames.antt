@@ -1,68 +1,12 @@
--- Rows that compare yes are equal, and the comparison of two books row by row.
-use Rattle.std.proofs.Common.{◌≡◌, ℕ, Bool, true, false, List, Some, None, Decides, IsTrue, ◌↔◌, Option, sym, refl, ap, ◌∙◌, arith}
-use Rattle.std.proofs.lemmas.Bool.{and_from, and_parts, eq-eqb, eqb-true}
-use Rattle.std.specs.Bool.{beq}
-use Rattle.std.specs.Option.{option_eq}
+-- The comparison of two books row by row.
+use Rattle.std.proofs.Common.{◌≡◌, ℕ, Bool, true, false, List, Decides, IsTrue, ◌↔◌, sym, refl, ap, ◌∙◌, arith}
 use Rattle.std.proofs.lemmas.Slice.Eq.{slice_eq-Decides}
-use Rattle.readings.specs.declared.reading.Reading.{Reading}
-use Rattle.books.specs.declared.row.Job.{Job}
+use Rattle.policy.specs.Course.{Course}
 use Rattle.books.specs.declared.row.Row.{Row}
-use Rattle.books.specs.Ages.{StayEqual}
-use Rattle.books.specs.Rows.{same_job, same_reading, same_row, same_rows}
+use Rattle.books.specs.Rows.{same_row, same_rows}
+use Rattle.books.specs.Sames.{row_from, row_to}
+use Rattle.books.specs.Slots.{books_at, fault_at}
 use Rattle.books.proofs.Ages.{stay_equal}
-
-reading_from : (a b : Reading) → same_reading a b ≡ true → a ≡ b
-reading_from a b h =
-    let i = and_parts _ _ h in
-    let w = and_parts _ _ i.1 in
-    let e = eqb-true a.id b.id i.0 in
-    let f = eqb-true a.work b.work w.0 in
-    let g = eqb-true a.validity b.validity w.1 in
-    let same : ◌≡◌ {A = Reading} (record { id = a.id; work = a.work; validity = a.validity }) (record { id = b.id; work = b.work; validity = b.validity }) = cc in
-    same
-
-job_from : (a b : Option Job) → option_eq same_job a b ≡ true → a ≡ b
-job_from None None h = refl
-job_from None (Some k) h = cc
-job_from (Some j) None h = cc
-job_from (Some j) (Some k) h =
-    let p = and_parts _ _ h in
-    let e = eqb-true j.age k.age p.0 in
-    let f = eqb-true j.left k.left p.1 in
-    let same : ◌≡◌ {A = Job} (record { age = j.age; left = j.left }) (record { age = k.age; left = k.left }) = cc in
-    ap (λ (x : Job). Some x) same
-
-flag_from : (a b : Bool) → beq a b ≡ true → a ≡ b
-flag_from true true h = refl
-flag_from true false h = cc
-flag_from false true h = cc
-flag_from false false h = refl
-
-row_from : (a b : Row) → same_row a b ≡ true → a ≡ b
-row_from a b h =
-    let p = and_parts _ _ h in
-    let q = and_parts _ _ p.1 in
-    let s = and_parts _ _ q.1 in
-    let e = eqb-true a.age b.age p.0 in
-    let f = job_from a.job b.job q.0 in
-    let g = flag_from a.shown b.shown s.0 in
-    let i = reading_from a.reading b.reading s.1 in
-    let same : ◌≡◌ {A = Row} (record { reading = a.reading; shown = a.shown; age = a.age; job = a.job }) (record { reading = b.reading; shown = b.shown; age = b.age; job = b.job }) = cc in
-    same
-
-reading_to : (a : Reading) → same_reading a a ≡ true
-reading_to a = and_from _ _ (eq-eqb a.id _ refl) (and_from _ _ (eq-eqb a.work _ refl) (eq-eqb a.validity _ refl))
-
-job_to : (o : Option Job) → option_eq same_job o o ≡ true
-job_to None = refl
-job_to (Some j) = and_from _ _ (eq-eqb j.age _ refl) (eq-eqb j.left _ refl)
-
-flag_to : (b : Bool) → beq b b ≡ true
-flag_to true = refl
-flag_to false = refl
-
-row_to : (a : Row) → same_row a a ≡ true
-row_to a = and_from _ _ (eq-eqb a.age _ refl) (and_from _ _ (job_to a.job) (and_from _ _ (flag_to a.shown) (reading_to a.reading)))
 
 -- the comparison of a row says yes exactly when both are equal
 same_row_decides : (a b : Row) → Decides (same_row a b) (a ≡ b)
@@ -78,11 +22,14 @@ rows_from xs ys = (rows_decide xs ys).0
 pub rows_to : (xs : List Row) → same_rows xs xs ≡ true
 rows_to xs = (rows_decide xs xs).1 refl
 
--- and where it says yes, equal rows stay equal
-pub compared : (xs ys : List Row) (r : Bool) → r ≡ same_rows xs ys → (IsTrue r ↔ (xs ≡ ys)) × (r ≡ true → StayEqual xs ys)
-compared xs ys r e =
-    let d = rows_decide xs ys in
-    rw e (d, λ t. stay_equal xs ys (d.0 t))
+-- a test that says the same is exact
+pub compared : (xs ys : List Row) (r : Bool) → r ≡ same_rows xs ys → IsTrue r ↔ (xs ≡ ys)
+compared xs ys r e = rw e (rows_decide xs ys)
+
+-- and where it says yes both stay equal (`StayEqual`, written out)
+pub lasts : (xs ys : List Row) (r : Bool) → r ≡ same_rows xs ys → r ≡ true → (c d : Course) → ((n : ℕ) → c n ≡ d n) → (n : ℕ)
+    → (books_at c xs n ≡ books_at d ys n) × (fault_at c xs n ≡ fault_at d ys n)
+lasts xs ys r e t = stay_equal xs ys (rows_from xs ys (sym e ∙ t))
 
 pub refused : {P : Type 0} → (P → ⊥) → Decides false P
 refused no' = (λ e. absurd (let z : ◌≡◌ {A = ℕ} 0 1 = cc in omega arith), λ p. absurd (no' p))

@@ -8,3 +8,4 @@ pub mod Held
 pub mod Lookups
 pub mod Crossings
 pub mod Ages
+pub mod Sames

@@ -112,6 +112,7 @@ impl Books {
     }
 
     /// Whether all that is kept of each row is equal: then both stay equal under equal answers.
+    #[tactic(auto, using(crate::proofs::Sames::compared, crate::proofs::Sames::lasts))]
     pub fn same(&self, other: &Books) -> bool
         ensures value { result ≡ same_rows (rows_of self.now) (rows_of other.now) }
         ensures exact { IsTrue result ↔ (rows_of self.now ≡ rows_of other.now) }

@@ -17,7 +17,7 @@ pub struct Job {
 }
 
 /// What the books keep of a row.
-#[derive(Clone, Copy, PartialEq, Eq, Debug)]
+#[derive(Clone, Copy, Debug)]
 pub struct Row {
     /// The slots since the sample of the value on show or, with none, since the row came on.
     pub age: u16,
@@ -27,6 +27,29 @@ pub struct Row {
     pub shown: bool,
     /// The row's reading: id, work length and validity.
     pub reading: Reading,
+}
+
+impl PartialEq for Row {
+    ghost use Rattle.books.specs.Rows.{same_row};
+    ghost use Rattle.books.specs.Sames.{row_partial_equivalence};
+
+    ghost eq = { same_row };
+
+    ghost laws = { row_partial_equivalence };
+
+    // Whether all that is kept of both rows is equal; the ages first, since they differ most.
+    fn eq(&self, other: &Row) -> bool {
+        self.age == other.age
+            && self.job == other.job
+            && self.shown == other.shown
+            && self.reading == other.reading
+    }
+}
+
+impl Eq for Row {
+    ghost use Rattle.books.specs.Sames.{row_equivalence};
+
+    ghost laws = { row_equivalence };
 }
 
 impl Row {

@@ -20,6 +20,8 @@ fn numbers(rt: HostRuntime) {
 fn tokens(rt: HostRuntime) {
     assert_eq!(rt; Token::from(b"plan".as_slice()).number(), None);
     assert_eq!(rt; Token::from(b"40".as_slice()).number(), Some(40));
+    assert!(rt; Token::from(b"plan".as_slice()).is(b"plan"));
+    assert!(rt; !Token::from(b"planned".as_slice()).is(b"plan"));
 }
 
 #[test]
@@ -77,6 +79,7 @@ fn malformed_lines(rt: HostRuntime) {
         (b"switch 1".as_slice(), "one number of two"),
         (b"stop 1".as_slice(), "a number behind"),
         (b"show 65536".as_slice(), "past 16 bits"),
+        ([b' '; 81].as_slice(), "81 bytes"),
     ] {
         assert_eq!(rt; Command::of(line), None, "{fault}");
     }

@@ -1,4 +1,5 @@
 ghost use Rattle.std.specs.Prelude.{◌≡◌};
+ghost use Rattle.std.specs.Str.{bytes_eq};
 ghost use Rattle.lines.specs.Numeral.{numeral};
 ghost use Rattle.lines.specs.Tokens.{begins_with_digit, bytes_of, is_number, number_of};
 
@@ -36,5 +37,13 @@ impl<'a> Token<'a> {
             Token::Word(_) => None,
             Token::Number(digits) => number(digits),
         }
+    }
+
+    /// Whether the token has the bytes of the given word, all of them and no others.
+    pub fn is(&self, word: &[u8]) -> bool
+        ensures { result ≡ bytes_eq (bytes_of self.now) word.now }
+    {
+        let (Token::Word(bytes) | Token::Number(bytes)) = self;
+        *bytes == word
     }
 }

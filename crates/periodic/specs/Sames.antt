@@ -1,11 +1,13 @@
 -- Phases that compare yes are equal.
 use Rattle.std.specs.Prelude.{◌≡◌, true, List, refl}
+use Rattle.std.specs.Cmp.{IsEquivalence, IsPartialEquivalence, partial_equiv_from_equiv}
 use Rattle.std.proofs.Common.{Decides, ap, sym, ◌∙◌}
 use Rattle.std.proofs.lemmas.Bool.{and_from, and_parts, eq-eqb, eqb-true}
 use Rattle.std.proofs.lemmas.Slice.Eq.{slice_eq-Decides}
 use Rattle.periodic.specs.declared.phase.Phase.{Phase}
 use Rattle.periodic.specs.Phases.{same_phase, same_phases, same_timing}
 use Rattle.planner.specs.declared.timing.Timing.{Timing}
+use Rattle.policy.specs.Equalities.{equivalence}
 
 timing_from_same : (t u : Timing) → same_timing t u ≡ true → t ≡ u
 timing_from_same t u h =
@@ -35,6 +37,13 @@ phase_to_same a =
     and_from _ _
     (and_from _ _ (eq-eqb a.timing.work _ refl) (eq-eqb a.timing.period _ refl))
     (and_from _ _ (eq-eqb a.until _ refl) (eq-eqb a.left _ refl))
+
+-- so the comparison of phases has the laws of one
+pub phase_equivalence : IsEquivalence same_phase
+phase_equivalence = equivalence same_phase phase_from_same phase_to_same
+
+pub phase_partial_equivalence : IsPartialEquivalence same_phase
+phase_partial_equivalence = partial_equiv_from_equiv phase_equivalence
 
 same_phase_decides : (a b : Phase) → Decides (same_phase a b) (a ≡ b)
 same_phase_decides a b = (phase_from_same a b, λ e. ap (same_phase a) (sym e) ∙ phase_to_same a)

@@ -4,7 +4,7 @@ ghost use Rattle.std.specs.Prelude.{◌≡◌};
 use planner::Timing;
 
 /// What the periodic kind keeps of a row, before the samples of a slot.
-#[derive(Clone, Copy, PartialEq, Eq, Debug, Default)]
+#[derive(Clone, Copy, Debug, Default)]
 pub struct Phase {
     /// How the row is refreshed.
     pub timing: Timing,
@@ -12,6 +12,26 @@ pub struct Phase {
     pub until: u16,
     /// The slots of work that its job has left, 0 without a job.
     pub left: u8,
+}
+
+impl PartialEq for Phase {
+    ghost use Rattle.periodic.specs.Phases.{same_phase};
+    ghost use Rattle.periodic.specs.Sames.{phase_partial_equivalence};
+
+    ghost eq = { same_phase };
+
+    ghost laws = { phase_partial_equivalence };
+
+    // Whether all numbers kept of both rows are equal.
+    fn eq(&self, other: &Phase) -> bool {
+        self.timing == other.timing && self.until == other.until && self.left == other.left
+    }
+}
+
+impl Eq for Phase {
+    ghost use Rattle.periodic.specs.Sames.{phase_equivalence};
+
+    ghost laws = { phase_equivalence };
 }
 
 impl Phase {

@@ -2,3 +2,4 @@ pub mod Course
 pub mod BankLaws
 pub mod Banks
 pub mod Policies
+pub mod Equalities

@@ -7,9 +7,12 @@ use crate::policy::Policy;
 /// second. The course of a bank is that of the used policy, and a step moves only that one on.
 #[derive(Drop)]
 pub struct Bank<A, B> {
-    first: A,
-    second: B,
-    used: u8,
+    /// The policy that 1 uses.
+    pub first: A,
+    /// The policy that any other number uses.
+    pub second: B,
+    /// The number that says which is used.
+    pub used: u8,
 }
 
 impl<A: Policy, B: Policy> Bank<A, B> {

@@ -38,7 +38,7 @@ said_joined (rs ∷ rss) =
 
 module _ {Got : Type 0} (with_one : Got → LineReply → Got) where
   -- more replies
-  more_got : (old now new : Got) (replies more : List LineReply) → Gets with_one old now replies → Gets with_one now new more
+  pub more_got : (old now new : Got) (replies more : List LineReply) → Gets with_one old now replies → Gets with_one now new more
       → Gets with_one old new (replies ++ more)
   more_got old now new replies more got e =
       e ∙ ap (λ (g : Got). fold with_one g more) got ∙ sym (fold-append with_one old replies more)

@@ -12,3 +12,4 @@ pub mod Laws
 pub mod Held
 pub mod Sinks
 pub mod Stops
+pub mod Shortage

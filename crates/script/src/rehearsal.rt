@@ -3,10 +3,12 @@ ghost use Rattle.lines.specs.Left.{left, none_left};
 ghost use Rattle.lines.specs.Pieces.{pieces};
 ghost use Rattle.script.specs.Held.{drafts_state};
 ghost use Rattle.script.specs.Replies.{Said};
+ghost use Rattle.script.specs.Shortage.{StopsAtLine};
 ghost use Rattle.script.specs.Sinks.{AnswersLines, AnswersText, BeginsLines, BeginsText};
 ghost use Rattle.script.specs.States.{first_state, once_called};
+ghost use Rattle.script.specs.Stops.{IfMemory};
 ghost use Rattle.script.specs.Texts.{LinesAnswered, Rehearses};
-ghost use Rattle.std.specs.Prelude.{◌≡◌, ◌≢◌, false, List, [], ◌∷◌, OnErr, OnOk};
+ghost use Rattle.std.specs.Prelude.{◌≡◌, ◌≢◌, ◌≤◌, false, List, [], ◌∷◌, length, IfErr, OnErr, OnOk};
 
 use crate::calls::Calls;
 use crate::drafts::Drafts;
@@ -15,19 +17,25 @@ use crate::sink::{Sink, Stopped, give};
 use crate::strips::{LONGEST_STRIP, StripMemory};
 use lines::Pieces;
 use readings::Refusal;
-use std::alloc::{AllocError, Global};
+use std::alloc::Global;
 
 /// The most bytes that a script may have.
 pub const LONGEST_SCRIPT: usize = 16_384;
 
 /// Answers a whole script: hands the sink the replies to its lines, one after the other. Fails only
 /// where the sink fails or memory runs out, and then the sink has got a beginning of the replies.
+/// Memory runs out only at a line that adds a reading, for which there is no room (see
+/// `Drafts::line`), and never in a text that is too long: the lines before it are answered then, and
+/// no other.
 #[tactic(auto, using(crate::proofs::LawsHold::two_plans, crate::proofs::TextRuns::refused_alone))]
 pub fn rehearse<S: Sink>(heap: Global, text: &[u8], sink: &mut S) -> Result<(), Stopped<S::Error>>
     ensures ok { OnOk result
         (AnswersText S.with_one (S.got sink.old) (S.got sink.new) text.now) }
     ensures err { OnErr result
         (BeginsText S.with_one (S.got sink.old) (S.got sink.new) text.now) }
+    ensures no_room { IfErr result (λ e. IfMemory e
+        (StopsAtLine S.with_one (S.got sink.old) (S.got sink.new) text.now)) }
+    ensures short { IfErr result (λ e. IfMemory e (length text.now ≤ 16384)) }
 
     // What holds of the lines of the text, however they are answered.
     ensures two_plans { (answers : List (List Said)) → Rehearses text.now answers
@@ -44,20 +52,17 @@ pub fn rehearse<S: Sink>(heap: Global, text: &[u8], sink: &mut S) -> Result<(), 
     }
 }
 
-// Memory for a strip.
-fn strip_memory(heap: Global) -> Result<Box<StripMemory>, AllocError> {
-    Ok(Box::new(heap, [0; LONGEST_STRIP])?)
-}
-
 // Answers the lines of a text.
 fn answer_lines<S: Sink>(heap: Global, text: &[u8], sink: &mut S) -> Result<(), Stopped<S::Error>>
     ensures ok { OnOk result (AnswersLines S.with_one (S.got sink.old) (S.got sink.new)
         (LinesAnswered first_state (pieces 10 text.now))) }
     ensures err { OnErr result (BeginsLines S.with_one (S.got sink.old) (S.got sink.new)
         (LinesAnswered first_state (pieces 10 text.now))) }
+    ensures no_room { IfErr result (λ e. IfMemory e
+        (StopsAtLine S.with_one (S.got sink.old) (S.got sink.new) text.now)) }
 {
-    let mut first = strip_memory(heap)?;
-    let mut second = strip_memory(heap)?;
+    let mut first: StripMemory = [0; LONGEST_STRIP];
+    let mut second: StripMemory = [0; LONGEST_STRIP];
     answer_plans(Drafts::new(heap, &mut first, &mut second), text, sink)
 }
 
@@ -72,10 +77,12 @@ fn answer_plans<S: Sink>(
         (LinesAnswered first_state (pieces 10 text.now))) }
     ensures err { OnErr result (BeginsLines S.with_one (S.got sink.old) (S.got sink.new)
         (LinesAnswered first_state (pieces 10 text.now))) }
+    ensures no_room { IfErr result (λ e. IfMemory e
+        (StopsAtLine S.with_one (S.got sink.old) (S.got sink.new) text.now)) }
 {
     let mut lines = Pieces::new(text, b'\n');
     while let Some(line) = lines.next() {
-        if lines.is_done() {
+        if is_rest(&lines) {
             take_rest(line, sink).map_err(Stopped::Sink)?;
         } else if drafts.line(line, sink)? {
             // the line is a call, and ends the writing of plans
@@ -101,13 +108,20 @@ fn answer_calls<S: Sink>(
     let mut calls = Calls::new(drafts);
     calls.line(first, sink)?;
     while let Some(line) = lines.next() {
-        if lines.is_done() {
+        if is_rest(&lines) {
             take_rest(line, sink)?;
         } else {
             calls.line(line, sink)?;
         }
     }
     Ok(())
+}
+
+// Whether the piece taken last is what stands behind the last byte 10: none is left then.
+fn is_rest(lines: &Pieces) -> bool
+    ensures { result ≡ none_left (left lines.now) }
+{
+    lines.is_done()
 }
 
 // Answers what stands behind the last byte 10: a line cut short, unless nothing stands there.

@@ -28,7 +28,7 @@ loop-line-init g c =
 pub loop-line-preserved-in-Continue-branch-2 : goal.loop-line-preserved-in-Continue-branch-2
 loop-line-preserved-in-Continue-branch-2 g c =
     let at = c.loop-line.invariant in
-    let none = nothing_left (left c.next.new.self) (sym c.is_done.ensures ∙ c.if-is_done.true) in (
+    let none = nothing_left (left c.next.new.self) (sym c.is_rest.ensures ∙ c.if-is_rest.true) in (
       at.0,
       at.1,
       rest_reached g.S.Sink.with_one _ (g.S.Sink.got c.loop-line.sink) _ _ _ (left c.loop-line.lines) at.2 c.in-Some.line.now (left c.next.new.self)
@@ -42,7 +42,7 @@ loop-line-preserved g c =
       x.0,
       x.1.tallied,
       line_reached g.S.Sink.with_one _ (g.S.Sink.got c.loop-line.sink) _ _ _ (left c.loop-line.lines) at.2 c.in-Some.line.now (left c.next.new.self)
-          c.in-Some.ensures.steps.0 (sym c.is_done.ensures ∙ c.if-is_done.false) (g.S.Sink.got c.line-else-is_done.new.sink) _ x.1,
+          c.in-Some.ensures.steps.0 (sym c.is_rest.ensures ∙ c.if-is_rest.false) (g.S.Sink.got c.line-else-is_rest.new.sink) _ x.1,
     )
 
 pub returns-in_err-line-2-clause-err : goal.returns-in_err-line-2-clause-err
@@ -50,4 +50,4 @@ returns-in_err-line-2-clause-err g c =
     let p = err_from_is_err_and c.from_residual-in_err-line-2.result c.from_residual-in_err-line-2.ensures.1 in
     let at = c.loop-line.invariant in
     rw p.1 (begun_reached g.S.Sink.with_one _ (g.S.Sink.got c.loop-line.sink) _ _ _ (left c.loop-line.lines) at.2 c.in-Some.line.now (left c.next.new.self)
-    c.in-Some.ensures.steps.0 (sym c.is_done.ensures ∙ c.if-is_done.false) (g.S.Sink.got c.line-else-is_done.new.sink) (c.in_err-line-2.ensures.begun at.0 at.1))
+    c.in-Some.ensures.steps.0 (sym c.is_rest.ensures ∙ c.if-is_rest.false) (g.S.Sink.got c.line-else-is_rest.new.sink) (c.in_err-line-2.ensures.begun at.0 at.1))
